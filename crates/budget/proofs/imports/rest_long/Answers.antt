@@ -1,0 +1,13 @@
+use mathlib.Core.Path.{_≡_, ap, sym, subst, _∙_}
+use mathlib.Core.Bool.{cond}
+use native.Mathlib.Numerals.{add-one}
+use Rattle.std.proofs.shelf.Tests.{cond-true}
+use Rattle.measures.specs.Limits.{last}
+use Rattle.budget.specs.Imports.{rest-counts}
+use Rattle.budget.proofs.imports.rest_long.Needs as need
+
+pub loop-i-again : need.loop-i-again
+loop-i-again g c =
+    let m = g .R·BudgetRow .meaning in
+    let rested = c .rest .ensures .left ∙ cond-true _ _ _ (c .rest .ensures .answer) in
+    rw add-one (rested ∙ ap (λ y. m .rested y last) (c .loop-i .inv))

@@ -1,0 +1,3 @@
+// Tests of what `forecast` reads, refuses and says.
+#[cfg(test)]
+mod asked;
