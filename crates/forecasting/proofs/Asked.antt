@@ -18,22 +18,19 @@ use Rattle.budget.specs.declared.imports.Slot.{Slot}
 use Rattle.budget.proofs.Filling.{length-schedule}
 use Rattle.server.specs.Row.{server, made}
 use Rattle.server.specs.declared.ServerRow.{ServerRow}
-use Rattle.forecasting.specs.Lines.{told, foretold, on-row, or-fault, _>>=_}
+use Rattle.forecasting.specs.Lines.{told, on-terms, or-fault, _>>=_}
 use Rattle.forecasting.specs.declared.lines.Line.{Line}
 use Rattle.forecasting.specs.declared.lines.Fault.the-variants.{Refused}
 
-module _ (ns cs : List ℕ) (enough : 4 ≤ length ns) (lengths : cs ≡ drop 3 ns) (x : ServerRow) (row : made (getD ns 0 0) (getD ns 1 0) (getD ns 2 0) ≡ Ok x) where
-  after-row : foretold ns ≡ or-fault (fileable cs >>= λ _. Ok (told x (schedule server x 0 cs)))
-  after-row =
-      cond-false (ltb (length ns) 4) _ _ (le-ltb (length ns) 4 enough)
-      ∙ ap (λ m. or-fault (on-row m (drop 3 ns))) row
-      ∙ ap (λ ds. or-fault (on-row (Ok x) ds)) (sym lengths)
+module _ (rate ceiling threshold : ℕ) (cs : List ℕ) (x : ServerRow) (row : made rate ceiling threshold ≡ Ok x) where
+  after-row : on-terms rate ceiling threshold cs ≡ or-fault (fileable cs >>= λ _. Ok (told x (schedule server x 0 cs)))
+  after-row = ap (λ m. or-fault (m >>= λ y. fileable cs >>= λ _. Ok (told y (schedule server y 0 cs)))) row
 
-  pub foretold-refused : (r : Refusal) → fileable cs ≡ Err r → foretold ns ≡ Err (Refused r)
-  foretold-refused r e = after-row ∙ ap (λ f. or-fault (f >>= λ _. Ok (told x (schedule server x 0 cs)))) e
+  pub refused-lengths : (r : Refusal) → fileable cs ≡ Err r → on-terms rate ceiling threshold cs ≡ Err (Refused r)
+  refused-lengths r e = after-row ∙ ap (λ f. or-fault (f >>= λ _. Ok (told x (schedule server x 0 cs)))) e
 
-  pub foretold-told : fileable cs ≡ Ok tt → foretold ns ≡ Ok (told x (schedule server x 0 cs))
-  foretold-told e = after-row ∙ ap (λ f. or-fault (f >>= λ _. Ok (told x (schedule server x 0 cs)))) e
+  pub told-lengths : fileable cs ≡ Ok tt → on-terms rate ceiling threshold cs ≡ Ok (told x (schedule server x 0 cs))
+  told-lengths e = after-row ∙ ap (λ f. or-fault (f >>= λ _. Ok (told x (schedule server x 0 cs)))) e
 
 granted : (lawful many : Bool) → _≡_ {A = Result (Unit {0}) Refusal} (cond (not lawful) (Err LengthOutOfRange) (cond many (Err QueueFull) (Ok tt))) (Ok tt) → (lawful ≡ true) × (many ≡ false)
 granted true false e = (refl, refl)

@@ -57,18 +57,18 @@ imports k (s ∷ ss) = Import k (s .start) (s .end) (s .end) ∷ imports (k + 1)
 unfoldable pub told : ServerRow → List Slot → List Line
 told x ss = Terms (rate-of x) (ceiling-of x) (threshold-of x) ∷ Opening (level-of x) (wake-of x) ∷ (steps x 0 1 ss ++ imports 1 ss)
 
--- the imports are filed on a row at tick 0: what then happens
-abbrev pub on-row : Result ServerRow Refusal → List ℕ → Result (List Line) Refusal
-on-row row cs = row >>= λ x. fileable cs >>= λ _. Ok (told x (schedule server x 0 cs))
-
 abbrev pub or-fault : Result (List Line) Refusal → Result (List Line) Fault
 or-fault (Ok lines) = Ok lines
 or-fault (Err r) = Err (Refused r)
 
--- the forecast that a rate, a ceiling, a threshold and lengths ask for
+-- a row is made on these terms, and imports of these lengths are filed on it at tick 0: what then happens, or the first refusal
+abbrev pub on-terms : ℕ → ℕ → ℕ → List ℕ → Result (List Line) Fault
+on-terms rate ceiling threshold cs =
+    or-fault (made rate ceiling threshold >>= λ x. fileable cs >>= λ _. Ok (told x (schedule server x 0 cs)))
+
+-- the forecast that a rate, a ceiling, a threshold and one length or more ask for
 abbrev pub foretold : List ℕ → Result (List Line) Fault
-foretold ns =
-    cond (ltb (length ns) 4) (Err TooFewNumbers) (or-fault (on-row (made (getD ns 0 0) (getD ns 1 0) (getD ns 2 0)) (drop 3 ns)))
+foretold ns = cond (ltb (length ns) 4) (Err TooFewNumbers) (on-terms (getD ns 0 0) (getD ns 1 0) (getD ns 2 0) (drop 3 ns))
 
 -- what a fault says of the forecast; want of memory says nothing
 abbrev pub Excused : Fault → Result (List Line) Fault → Type 0

@@ -7,7 +7,7 @@ ghost use Rattle.std.specs.declared.result.Result.the-variants.{Ok};
 ghost use Rattle.budget.specs.Imports.{fileable, schedule};
 ghost use Rattle.server.specs.Row.{server};
 ghost use Rattle.forecasting.specs.declared.lines.Fault.the-variants.{Refused, OutOfMemory};
-ghost use Rattle.forecasting.specs.Lines.{step-lines, after-step, steps, imports as import-lines, told, Tells, foretold};
+ghost use Rattle.forecasting.specs.Lines.{step-lines, after-step, steps, imports as import-lines, told, Tells, on-terms, foretold};
 use budget::imports::Slot;
 use budget::imports::check_lengths;
 use budget::imports::rest_long;
@@ -150,6 +150,16 @@ fn tell_imports(heap: Global, row: &ServerRow, lengths: &[u64]) -> Result<Vec<Li
     tell(heap, row, &slots[0..lengths.len()])
 }
 
+// All that happens to imports of these lengths, on a new row with these terms.
+fn tell_lab(heap: Global, terms: (u64, u64, u64), lengths: &[u64]) -> Result<Vec<Line>, Fault>
+    ensures { λ r. ⌜ Tells r (on-terms (terms .0) (terms .1) (terms .2) (now (lengths .entry))) ⌝ }
+{
+    let (rate, ceiling, threshold) = terms;
+    let row = ServerRow::new(rate, ceiling, threshold)?;
+    check_lengths(lengths)?;
+    Ok(tell_imports(heap, &row, lengths)?)
+}
+
 // The forecast for a rate, a ceiling, a threshold and the lengths of imports in order.
 pub fn forecast(heap: Global, numbers: &[u64]) -> Result<Vec<Line>, Fault>
     ensures { λ r. ⌜ Tells r (foretold (now (numbers .entry))) ⌝ }
@@ -157,10 +167,8 @@ pub fn forecast(heap: Global, numbers: &[u64]) -> Result<Vec<Line>, Fault>
     if numbers.len() < 4 {
         return Err(Fault::TooFewNumbers);
     }
-    let row = ServerRow::new(numbers[0], numbers[1], numbers[2])?;
-    let lengths = &numbers[3..];
-    check_lengths(lengths)?;
-    Ok(tell_imports(heap, &row, lengths)?)
+    let (terms, lengths) = numbers.split_at(3);
+    tell_lab(heap, (terms[0], terms[1], terms[2]), lengths)
 }
 
 pub impl From<Refusal> for Fault as FaultFromRefusal {
