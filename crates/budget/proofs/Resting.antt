@@ -1,14 +1,14 @@
 -- What the sentences say of a row that rests for any number of ticks, and of the imports that come next on it.
-use mathlib.Core.Path.{_≡_, refl, sym, ap, subst, _∙_}
+use mathlib.Core.Path.{_≡_, refl, sym, subst, _∙_}
 use mathlib.Core.Bool.{true, false}
 use mathlib.Core.List.{List, [], _∷_}
 use Prim.Native.Nat.{ℕ, zero, suc, _+_, _-_, _*_, _/_, _%_, _≤_, _<_}
-use native.Mathlib.Nat.{suc-mul, div-add-mod', mod-lt, le-of-lt, mul-le-mul-right, zero-mul}
+use native.Mathlib.Nat.{suc-mul, div-add-mod', mul-le-mul-right, zero-mul}
 use native.Mathlib.Omega.{arith}
 use Rattle.std.proofs.shelf.Tests.{eq-eqb, ne-eqb}
 use Rattle.measures.specs.Limits.{last}
 use Rattle.measures.proofs.Quotients.{up-div-self}
-use Rattle.budget.specs.Meaning.{Meaning, Sentences, full-wait}
+use Rattle.budget.specs.Meaning.{Meaning, Sentences}
 use Rattle.budget.specs.Imports.{rest-counts, rest-long, next-slot, after-run, schedule, Soonest, All-soonest}
 
 module _ {R : Type 0} {m : Meaning R} (s : Sentences m) where

@@ -1,16 +1,16 @@
 -- What is foretold, once the checks have answered.
-use mathlib.Core.Path.{_≡_, refl, sym, ap, _∙_}
-use mathlib.Core.Bool.{Bool, true, false, cond, not, _&&_}
-use mathlib.Core.List.{List, [], _∷_, _++_}
+use mathlib.Core.Path.{_≡_, refl, ap, _∙_}
+use mathlib.Core.Bool.{Bool, true, false, cond, not}
+use mathlib.Core.List.{List}
 use Prim.Native.Nat.{ℕ, _≤_}
 use native.Mathlib.Omega.{arith}
 use lib.Dec.{leb, ltb}
-use lib.ListN.{length, getD, take, drop}
+use lib.ListN.{length, take}
 use lib.Seq.{take-at}
 use Rattle.std.specs.declared.result.Result.{Result}
 use Rattle.std.specs.declared.result.Result.the-variants.{Ok, Err}
-use Rattle.std.proofs.shelf.Tests.{cond-true, cond-false, le-ltb, le-leb, ltb-false, and-from, not-false}
-use Rattle.measures.specs.Limits.{most-waiting, tick?}
+use Rattle.std.proofs.shelf.Tests.{cond-true, le-leb, ltb-false, and-from}
+use Rattle.measures.specs.Limits.{most-waiting}
 use Rattle.measures.specs.declared.refusal.Refusal.{Refusal}
 use Rattle.measures.specs.declared.refusal.Refusal.the-variants.{LengthOutOfRange, QueueFull}
 use Rattle.budget.specs.Imports.{schedule, fileable, schedulable, lengths?, written-over}
@@ -19,7 +19,6 @@ use Rattle.budget.proofs.Filling.{length-schedule}
 use Rattle.server.specs.Row.{server, made}
 use Rattle.server.specs.declared.ServerRow.{ServerRow}
 use Rattle.forecasting.specs.Lines.{told, on-terms, or-fault, _>>=_}
-use Rattle.forecasting.specs.declared.lines.Line.{Line}
 use Rattle.forecasting.specs.declared.lines.Fault.the-variants.{Refused}
 
 module _ (rate ceiling threshold : ℕ) (cs : List ℕ) (x : ServerRow) (row : made rate ceiling threshold ≡ Ok x) where

@@ -35,7 +35,7 @@ at-start x t s = rest-long server x (s .start - t)
 abbrev pub held : Slot → ℕ
 held s = s .end - s .start
 
--- the row at the end of the slot, once it has heard of the run
+-- the row at the end of the slot, once it has heard of the run; a row that answers no stays as it is
 abbrev pub after-step : ServerRow → ℕ → Slot → ServerRow
 after-step x t s = cond (tick? (held s) && able-of (at-start x t s)) (ended (at-start x t s) (held s)) (at-start x t s)
 
@@ -48,7 +48,7 @@ abbrev pub steps : ServerRow → ℕ → ℕ → List Slot → List Line
 steps x t k [] = []
 steps x t k (s ∷ ss) = step-lines x t k s ++ steps (after-step x t s) (s .end) (k + 1) ss
 
--- a line for each import
+-- a line for each import: its number, start, end, and the response time since the filing at tick 0
 abbrev pub imports : ℕ → List Slot → List Line
 imports k [] = []
 imports k (s ∷ ss) = Import k (s .start) (s .end) (s .end) ∷ imports (k + 1) ss

@@ -2,7 +2,7 @@
 use mathlib.Core.Path.{_≡_}
 use mathlib.Core.Logic.{⊎-elim}
 use Prim.Native.Nat.{ℕ, suc, _+_, _-_, _*_, _/_, _%_, _≤_, _<_, min}
-use native.Mathlib.Nat.{div-lt-iff-lt-mul, lt-div-mul-add, div-add-mod', mod-lt, le-antisymm, suc-mul, add-mul, one-mul, mul-sub, zero-mul, le-of-mul-le-mul-right, lt-of-mul-lt-mul-right, le-mul-of-pos-right, mul-le-mul-right}
+use native.Mathlib.Nat.{div-lt-iff-lt-mul, lt-div-mul-add, div-add-mod', mod-lt, le-antisymm, suc-mul, add-mul, mul-sub, zero-mul, le-of-mul-le-mul-right, lt-of-mul-lt-mul-right, le-mul-of-pos-right, mul-le-mul-right}
 use native.Mathlib.Omega.{arith}
 use Rattle.std.proofs.shelf.Tests.{cases-lt}
 use Rattle.measures.specs.Division.{up-div, Least}

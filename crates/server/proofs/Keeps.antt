@@ -1,20 +1,20 @@
 -- The server row keeps the sentences.
-use mathlib.Core.Path.{_≡_, refl, sym, ap, subst, _∙_}
-use mathlib.Core.Bool.{Bool, true, false, cond, _&&_, _||_}
-use mathlib.Core.Logic.{_⊎_, inl, inr, ⊎-elim}
-use Prim.Native.Nat.{ℕ, zero, suc, _+_, _-_, _*_, _≤_, _<_, min, max}
-use native.Mathlib.Nat.{mul-add, mul-comm, mul-le-mul-left}
+use mathlib.Core.Path.{_≡_, refl, sym, ap, _∙_}
+use mathlib.Core.Bool.{Bool, true, false, _&&_, _||_}
+use mathlib.Core.Logic.{⊎-elim}
+use Prim.Native.Nat.{ℕ, _+_, _-_, _*_, _≤_}
+use native.Mathlib.Nat.{mul-add, mul-le-mul-left}
 use native.Mathlib.Omega.{arith}
 use lib.Dec.{eqb}
-use lib.IntN.{ℤ, pos, negℤ, natAbs, _+ℤ_, _-ℤ_}
+use lib.IntN.{ℤ, pos, _+ℤ_}
 use lib.Signed.{leZ, _≤ℤ_, _<ℤ_}
-use Rattle.std.specs.Numbers.{maxZ, minZ}
+use Rattle.std.specs.Numbers.{minZ}
 use Rattle.std.proofs.shelf.Signed.{ints, clamps}
-use Rattle.std.proofs.shelf.Tests.{cond-true, cond-false, or-cases, or-parts, or-left, or-right, or-from, and-parts, cases-bool, eq-eqb, ne-eqb}
+use Rattle.std.proofs.shelf.Tests.{cond-true, cond-false, or-cases, or-left, or-right, or-from, cases-bool, eq-eqb, ne-eqb}
 use Rattle.measures.specs.Limits.{last}
 use Rattle.measures.specs.Division.{up-div}
 use Rattle.measures.proofs.Quotients.{up-div-below, up-div-less, up-div-mono, up-div-positive}
-use Rattle.budget.specs.Meaning.{Meaning, Sentences, Same-terms, full-wait, first-wait}
+use Rattle.budget.specs.Meaning.{Sentences, Same-terms, full-wait, first-wait}
 use Rattle.server.specs.Row.{rate-of, ceiling-of, threshold-of, debt, level-of, able-of, missing, wake-of, with-level, restarted, raised, rested, charged, ended, server}
 use Rattle.server.specs.declared.ServerRow.{ServerRow}
 

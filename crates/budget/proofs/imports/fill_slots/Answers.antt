@@ -1,12 +1,11 @@
 use mathlib.Core.Path.{_≡_, sym, ap, subst, _∙_}
 use mathlib.Core.List.{_++_, []}
-use Prim.Native.Nat.{_+_, _*_, _≤_, _<_}
-use native.Mathlib.Nat.{add-mul, one-mul}
+use Prim.Native.Nat.{_+_, _<_}
 use native.Mathlib.Omega.{arith}
 use lib.ListN.{length, getD, take, drop, set}
 use lib.Seq.{take-at}
 use Rattle.std.proofs.shelf.Lists.{at-drop-all}
-use Rattle.measures.specs.Limits.{last, greatest-length}
+use Rattle.measures.specs.Limits.{last}
 use Rattle.budget.specs.Imports.{next-slot, schedule, written-over, All-soonest}
 use Rattle.budget.proofs.Resting.{wake-limit, all-soonest}
 use Rattle.budget.proofs.Filling.{lengths-at, schedulable-parts, length-schedule, slots-more, rest-more, slots-all}

@@ -1,7 +1,7 @@
 use mathlib.Core.Path.{_≡_}
 use mathlib.Core.List.{_++_}
 use Prim.Native.Nat.{_+_, _*_, _≤_}
-use lib.ListN.{take, drop, length}
+use lib.ListN.{take, drop}
 use Rattle.measures.specs.Limits.{last, greatest-length}
 use Rattle.budget.specs.Imports.{schedule}
 use Rattle.budget.proofs.imports.fill_slots.Given as given

@@ -1,9 +1,7 @@
-use mathlib.Core.Path.{_≡_, ap, sym, subst, _∙_}
-use mathlib.Core.Bool.{cond}
+use mathlib.Core.Path.{ap, _∙_}
 use native.Mathlib.Numerals.{add-one}
 use Rattle.std.proofs.shelf.Tests.{cond-true}
 use Rattle.measures.specs.Limits.{last}
-use Rattle.budget.specs.Imports.{rest-counts}
 use Rattle.budget.proofs.imports.rest_long.Needs as need
 
 pub loop-i-again : need.loop-i-again

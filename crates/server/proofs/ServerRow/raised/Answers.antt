@@ -2,7 +2,7 @@ use mathlib.Core.Path.{_≡_, ap}
 use Prim.Native.Nat.{_*_}
 use native.Mathlib.Omega.{arith}
 use Rattle.std.proofs.shelf.Signed.{ints, clamps}
-use Rattle.server.specs.Row.{rate-of, level-of, ceiling-of}
+use Rattle.server.specs.Row.{rate-of}
 use Rattle.server.proofs.ServerRow.raised.Needs as need
 
 pub returns : need.returns
