@@ -2,6 +2,7 @@
 // for each its rate and the starts and ends of its imports, to be held against figures that were computed by other means.
 use budget::imports::Slot;
 use budget::imports::schedule;
+use measures::limits::MOST_WAITING;
 use server::ServerBudgetRow;
 use server::ServerRow;
 use std::alloc::Global;
@@ -16,9 +17,9 @@ fn numbers(heap: Global, line: &str) -> Result<Vec<u64>, AnyError> {
 }
 
 fn answer(rt: &LibcRuntime, numbers: &[u64]) -> Result<(), AnyError> {
-    let mut slots = [Slot { start: 0, end: 0 }; 16];
-    if numbers.len() < 4 || numbers.len() > 19 {
-        return Err("a line has not 4 to 19 numbers".into());
+    let mut slots = [Slot { start: 0, end: 0 }; MOST_WAITING as usize];
+    if numbers.len() < 4 {
+        return Err("a line has fewer than four numbers".into());
     }
     let Ok(row) = ServerRow::new(numbers[0], numbers[1], numbers[2]) else {
         return Err("no such row".into());

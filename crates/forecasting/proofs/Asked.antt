@@ -37,15 +37,15 @@ granted true true e = absurd (let z : _≡_ {A = ℕ} 0 1 = cc in omega arith)
 granted false many e = absurd (let z : _≡_ {A = ℕ} 0 1 = cc in omega arith)
 
 -- lengths that can be filed can be scheduled into as many places as tickets may wait
-pub fileable-schedulable : (cs : List ℕ) → fileable cs ≡ Ok tt → (schedulable 0 cs 16 ≡ true) × (length cs ≤ 16)
+pub fileable-schedulable : (cs : List ℕ) → fileable cs ≡ Ok tt → (schedulable 0 cs most-waiting ≡ true) × (length cs ≤ most-waiting)
 fileable-schedulable cs e =
     let (lawful, few) = granted (lengths? cs) (ltb most-waiting (length cs)) e in
-    let within : length cs ≤ 16 = ltb-false most-waiting (length cs) few in
-    let room : leb (length cs) 16 ≡ true = le-leb (length cs) 16 within in
+    let within : length cs ≤ most-waiting = ltb-false most-waiting (length cs) few in
+    let room : leb (length cs) most-waiting ≡ true = le-leb (length cs) most-waiting within in
     (and-from _ _ room (and-from _ _ room lawful), within)
 
 -- the first places of what is then written are the schedule
-pub first-places : (x : ServerRow) (cs : List ℕ) (old now : List Slot) (r : Bool) → fileable cs ≡ Ok tt → length old ≡ 16
+pub first-places : (x : ServerRow) (cs : List ℕ) (old now : List Slot) (r : Bool) → fileable cs ≡ Ok tt → length old ≡ most-waiting
     → r ≡ schedulable 0 cs (length old) → now ≡ cond r (written-over (schedule server x 0 cs) old) old → take (length cs) now ≡ schedule server x 0 cs
 first-places x cs old now r lawful places answer listed =
     let yes : r ≡ true = answer ∙ ap (schedulable 0 cs) places ∙ fileable-schedulable cs lawful .0 in

@@ -11,7 +11,7 @@ use lib.Signed.{leZ, _≤ℤ_, _<ℤ_}
 use Rattle.std.specs.Numbers.{minZ}
 use Rattle.std.proofs.shelf.Signed.{ints, clamps}
 use Rattle.std.proofs.shelf.Tests.{cond-true, cond-false, or-cases, or-left, or-right, or-from, cases-bool, eq-eqb, ne-eqb}
-use Rattle.measures.specs.Limits.{last}
+use Rattle.measures.specs.Limits.{last, least-rate, greatest-rate}
 use Rattle.measures.specs.Division.{up-div}
 use Rattle.measures.proofs.Quotients.{up-div-below, up-div-less, up-div-mono, up-div-positive}
 use Rattle.budget.specs.Meaning.{Sentences, Same-terms, full-wait, first-wait}
@@ -42,10 +42,10 @@ or-full true t l l′ h = refl
 or-full false t l l′ h = grind (arith, ints)
 
 module _ (x : ServerRow) where
-  rate-low : 1 ≤ rate-of x
+  rate-low : least-rate ≤ rate-of x
   rate-low = omega arith
 
-  rate-high : rate-of x ≤ 999
+  rate-high : rate-of x ≤ greatest-rate
   rate-high = omega arith
 
   threshold-high : threshold-of x ≤ ceiling-of x
