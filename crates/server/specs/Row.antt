@@ -1,6 +1,6 @@
 -- What a server row means. Between runs it is able or not able: a run may only begin on an able row, a row in debt becomes able
 -- again at its threshold, and an able row stays able.
-use mathlib.Core.Bool.{Bool, cond, not, _&&_, _||_}
+use mathlib.Core.Bool.{Bool, false, cond, not, _&&_, _||_}
 use mathlib.Core.List.{[], _∷_}
 use Prim.Native.Nat.{ℕ, _-_, _*_, min, max}
 use lib.Dec.{eqb, ltb}
@@ -90,7 +90,7 @@ server = record {
 
 -- a row on these terms, as after a restart
 abbrev pub fresh : ℕ → ℕ → ℕ → ServerRow
-fresh rate ceiling threshold = record { rate = rate; ceiling = ceiling; threshold = threshold; level = pos 0; able = eqb threshold 0 }
+fresh rate ceiling threshold = restarted (record { rate = rate; ceiling = ceiling; threshold = threshold; level = pos 0; able = false })
 
 -- a new row, or the first refusal
 abbrev pub made : ℕ → ℕ → ℕ → Result ServerRow Refusal

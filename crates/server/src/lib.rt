@@ -43,13 +43,15 @@ impl ServerRow {
         if threshold > ceiling {
             return Err(Refusal::ThresholdAboveCeiling);
         }
-        Ok(ServerRow {
+        let mut row = ServerRow {
             rate,
             ceiling,
             threshold,
             level: 0,
-            able: threshold == 0,
-        })
+            able: false,
+        };
+        row.restart();
+        Ok(row)
     }
 
     pub fn level(&self) -> i64
