@@ -15,7 +15,7 @@ pub struct Slot {
 
 // Rests a row for any number of ticks, in counts of at most the last tick.
 pub fn rest_long<R: BudgetRow>(row: &mut R, ticks: u64)
-    ensures { row.new ≡ rest_long meaning row.old ticks }
+    ensures { row.new ≡ rest_long R.meaning row.old ticks }
 {
     for _i in 0..ticks / LAST_TICK {
         row.rest(LAST_TICK);
@@ -41,8 +41,8 @@ pub fn check_lengths(lengths: &[u64]) -> Result<(), Refusal>
 // than lengths, or an unlawful length.
 pub fn schedule<R: BudgetRow>(row: &R, tick: u64, lengths: &[u64], slots: &mut [Slot]) -> bool
     ensures answer { result ≡ schedulable tick lengths.now (length slots.old) }
-    ensures listed { slots.new ≡ (if result then written_over (schedule meaning row.now tick lengths.now) slots.old else slots.old) }
-    ensures soonest { result ≡ true → AllSoonest meaning row.now tick lengths.now (take (length lengths.now) slots.new) }
+    ensures listed { slots.new ≡ (if result then written_over (schedule R.meaning row.now tick lengths.now) slots.old else slots.old) }
+    ensures soonest { result ≡ true → AllSoonest R.meaning row.now tick lengths.now (take (length lengths.now) slots.new) }
 {
     if !is_schedulable(tick, lengths, slots.len()) {
         return false;
@@ -74,8 +74,8 @@ fn all_lengths(lengths: &[u64]) -> bool
 
 fn fill_slots<R: BudgetRow>(row: &R, tick: u64, lengths: &[u64], slots: &mut [Slot])
     requires { schedulable tick lengths.now (length slots.old) ≡ true }
-    ensures listed { slots.new ≡ written_over (schedule meaning row.now tick lengths.now) slots.old }
-    ensures soonest { AllSoonest meaning row.now tick lengths.now (take (length lengths.now) slots.new) }
+    ensures listed { slots.new ≡ written_over (schedule R.meaning row.now tick lengths.now) slots.old }
+    ensures soonest { AllSoonest R.meaning row.now tick lengths.now (take (length lengths.now) slots.new) }
 {
     let mut next = *row;
     let mut at = tick;
@@ -88,10 +88,10 @@ fn fill_slots<R: BudgetRow>(row: &R, tick: u64, lengths: &[u64], slots: &mut [Sl
 
 // One import: the row rests until it is able, and runs for `length` ticks.
 fn run_next<R: BudgetRow>(row: &mut R, tick: u64, length: u64) -> Slot
-    requires told { tick + meaning.wake row.old + length < 2 ^ 64 }
+    requires told { tick + R.meaning.wake row.old + length < 2 ^ 64 }
     requires lawful { length ≤ last }
-    ensures slot { result ≡ next_slot meaning row.old tick length }
-    ensures left { row.new ≡ after_run meaning row.old length }
+    ensures slot { result ≡ next_slot R.meaning row.old tick length }
+    ensures left { row.new ≡ after_run R.meaning row.old length }
 {
     let wait = row.wake();
     let start = tick + wait;

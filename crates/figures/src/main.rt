@@ -1,5 +1,7 @@
 // Reads server rows from standard input, a line for each: rate, ceiling, threshold and the lengths of imports filed at tick 0. Prints
 // for each its rate and the starts and ends of its imports, to be held against figures that were computed by other means.
+#![tactic(auto)]
+
 use anyhow::anyhow;
 use budget::imports::{Slot, schedule};
 use measures::limits::MOST_WAITING;

@@ -1,4 +1,6 @@
 // forecast RATE CEILING THRESHOLD LENGTH...: when the imports of one lab will begin and end, on its budget alone.
+#![tactic(auto)]
+
 use anyhow::anyhow;
 use forecasting::lines::forecast;
 use forecasting::numbers::number;

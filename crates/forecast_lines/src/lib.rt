@@ -1,4 +1,6 @@
 // The lines of a forecast, and why there is none: as values, and as text.
+#![tactic(auto)]
+
 ghost use Rattle.std.specs.Prelude.{◌≡◌};
 ghost use Rattle.forecast_lines.specs.declared.Fault.TheVariants.{Refused, OutOfMemory};
 

@@ -1,4 +1,6 @@
 // What the program `forecast` says: one lab's next imports on its server row, begun as soon as the row is able.
+#![tactic(auto)]
+
 pub mod lines;
 pub mod numbers;
 pub mod text;

@@ -1,4 +1,6 @@
 // The mixed row: a table of these holds rows of both budget rules side by side.
+#![tactic(auto)]
+
 ghost use Rattle.std.specs.Prelude.{◌≡◌};
 ghost use Rattle.mixed.specs.Row.{mixed};
 ghost use Rattle.mixed.specs.Keeps.{keeps};

@@ -1,4 +1,6 @@
 // Tests of the spaced row and the mixed row, and of what comes next on them, by worked cases and at the edges of every number.
+#![tactic(auto)]
+
 #[cfg(test)]
 mod acts;
 #[cfg(test)]

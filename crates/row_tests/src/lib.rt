@@ -1,4 +1,6 @@
 // Tests of the rows and of what comes next on them, by worked cases and at the edges of every number.
+#![tactic(auto)]
+
 #[cfg(test)]
 mod edges;
 #[cfg(test)]

@@ -1,4 +1,6 @@
 // The server row: a budget that fills at its rate up to a ceiling, and that a run empties at the rest of each tick.
+#![tactic(auto)]
+
 ghost use Rattle.std.specs.Prelude.{◌≡◌, ◌*◌, ◌≤◌, pos, neg_ℤ, ◌≤ℤ◌};
 ghost use Rattle.measures.specs.Limits.{last, greatest_ceiling};
 ghost use Rattle.server.specs.Row.{server, made, level_of, ceiling_of, threshold_of, rate_of, deepest, debt, raised, charged, missing};

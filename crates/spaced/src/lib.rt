@@ -1,4 +1,6 @@
 // The spaced row: imports of one lab are spaced by a pause in proportion to the ticks held, and nothing is saved up.
+#![tactic(auto)]
+
 ghost use Rattle.std.specs.Prelude.{◌≡◌, ◌*◌, ◌<◌, ◌≤◌, true, ◌&&◌, if◌then◌else◌};
 ghost use Rattle.measures.specs.Limits.{last, is_tick};
 ghost use Rattle.measures.specs.Division.{up_div};

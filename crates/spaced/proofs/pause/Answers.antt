@@ -7,5 +7,5 @@ pub returns : goal.returns
 returns c =
     let rate = c.args.rate in
     let ticks = c.args.ticks in
-    let value = c.ticks-to-make-up.ensures in
+    let value = c.ticks_to_make_up.ensures in
     record { value = value; shortest = subst (ShortestPause rate ticks) (sym value) (pause_shortest rate ticks c.requires.low (omega arith)) }

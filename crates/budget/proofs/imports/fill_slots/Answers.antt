@@ -6,8 +6,8 @@ use Rattle.budget.proofs.Resting.{wake_limit, all_soonest}
 use Rattle.budget.proofs.Filling.{lengths_at, schedulable_parts, length-schedule, slots_more, rest_more, slots_all}
 use Rattle.budget.proofs.imports.fill_slots.Goals as goal
 
-pub run-next-slot-requires : goal.run-next-slot-requires
-run-next-slot-requires g c =
+pub run_next-slot-requires : goal.run_next-slot-requires
+run_next-slot-requires g c =
     let (tick, few, room, lawful) = schedulable_parts c.args.tick c.args.lengths.now (length c.args.slots.now) c.requires in
     let short = lengths_at c.args.lengths.now c.loop-i.i lawful c.loop-i-test.true in
     let soon = wake_limit g.met.R.BudgetRow.sentences c.loop-i.next in
@@ -23,13 +23,13 @@ loop-i-preserved g c =
     let soon = wake_limit g.met.R.BudgetRow.sentences c.loop-i.next in
     let within : i < length c.loop-i.slots = omega arith in
     let n = get_or c.args.lengths.now i 0 in
-    let slot = c.run-next-slot.ensures.slot in
-    let left = c.run-next-slot.ensures.left in
+    let slot = c.run_next-slot.ensures.slot in
+    let left = c.run_next-slot.ensures.left in
     let more = slots_more m c.loop-i.slots _ c.loop-i.next c.loop-i.at c.args.lengths.now i within c.loop-i-test.true c.loop-i.invariant.0 in (
-      ap (λ s. take (i + 1) (set c.loop-i.slots i s) ++ schedule m c.run-next-slot.new.row s.end (drop (i + 1) c.args.lengths.now)) slot
+      ap (λ s. take (i + 1) (set c.loop-i.slots i s) ++ schedule m c.run_next-slot.new.row s.end (drop (i + 1) c.args.lengths.now)) slot
           ∙ ap (λ y. take (i + 1) (set c.loop-i.slots i (next_slot m c.loop-i.next c.loop-i.at n)) ++ schedule m y (next_slot m c.loop-i.next c.loop-i.at n).end (drop (i + 1) c.args.lengths.now)) left
           ∙ more,
-      rest_more c.loop-i.slots c.args.slots.now i c.run-next-slot.result within c.loop-i.auto.slots c.loop-i.invariant.1,
+      rest_more c.loop-i.slots c.args.slots.now i c.run_next-slot.result within c.loop-i.auto.slots c.loop-i.invariant.1,
       omega (arith, c.loop-i.invariant.2, ap (λ s. s.end) slot),
     )
 
