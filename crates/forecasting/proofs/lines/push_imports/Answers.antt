@@ -10,7 +10,7 @@ loop-slot-preserved c =
     let s = get_or c.args.slots.now c.loop-slot.slot-index no_slot in (
       omega (arith, c.loop-slot.invariant.0),
       told_more (imports k) c.args.slots.now c.loop-slot.slot-index _ (vec_items c.loop-slot.lines) (vec_items c.push.new.self)
-          (Import k s.start s.end s.end ∷ []) (imports (k + 1)) c.loop-slot-test.true (λ rest. refl) c.loop-slot.invariant.1 c.in-ok-push.ensures.items,
+          (Import k s.start s.end s.end ∷ []) (imports (k + 1)) c.loop-slot-test.true (λ rest. refl) c.loop-slot.invariant.1 c.in_ok-push.ensures.items,
     )
 
 pub returns : goal.returns

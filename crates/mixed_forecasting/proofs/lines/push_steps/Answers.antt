@@ -11,9 +11,9 @@ loop-slot-preserved c =
     let x = c.loop-slot.next in
     let t = c.loop-slot.tick in (
       omega (arith, c.loop-slot.invariant.0),
-      ap (λ y. vec_items c.extend-from-slice.new.self ++ steps mixed y s.end (k + 1) (drop (c.loop-slot.slot-index + 1) c.args.slots.now)) c.step.ensures.left
-          ∙ told_more (steps mixed x t k) c.args.slots.now c.loop-slot.slot-index _ (vec_items c.loop-slot.lines) (vec_items c.extend-from-slice.new.self)
-          (step_lines mixed x t k s) (steps mixed (after_step mixed x t s) s.end (k + 1)) c.loop-slot-test.true (λ rest. refl) c.loop-slot.invariant.1 (c.in-ok-extend-from-slice.ensures.items ∙ ap (λ ls. vec_items c.loop-slot.lines ++ ls) c.step.ensures.lines),
+      ap (λ y. vec_items c.extend_from_slice.new.self ++ steps mixed y s.end (k + 1) (drop (c.loop-slot.slot-index + 1) c.args.slots.now)) c.step.ensures.left
+          ∙ told_more (steps mixed x t k) c.args.slots.now c.loop-slot.slot-index _ (vec_items c.loop-slot.lines) (vec_items c.extend_from_slice.new.self)
+          (step_lines mixed x t k s) (steps mixed (after_step mixed x t s) s.end (k + 1)) c.loop-slot-test.true (λ rest. refl) c.loop-slot.invariant.1 (c.in_ok-extend_from_slice.ensures.items ∙ ap (λ ls. vec_items c.loop-slot.lines ++ ls) c.step.ensures.lines),
     )
 
 pub returns : goal.returns

@@ -5,12 +5,12 @@ use Rattle.mixed_forecasting.specs.Words.{asks_spaced}
 use Rattle.mixed_forecasting.proofs.Read.{first_word}
 use Rattle.mixed_forecasting.proofs.words.asks_spaced.Goals as goal
 
-pub returns-then-not-is-empty : goal.returns-then-not-is-empty
-returns-then-not-is-empty c =
+pub returns-then-not-is_empty : goal.returns-then-not-is_empty
+returns-then-not-is_empty c =
     let ws = c.args.words.now in
     let w = c.index-words-0.result in
     let some : 0 < length ws = search rules in
-    let same : c.eq.result ≡ bytes_eq c.as-str.result.now (codes "spaced") = search (rules, bytes_eq-Decides) in
+    let same : c.eq.result ≡ bytes_eq c.as_str.result.now (codes "spaced") = search (rules, bytes_eq-Decides) in
     same
-    ∙ ap (λ bs. bytes_eq bs (codes "spaced")) (c.as-str.ensures.value ∙ ap string_bytes c.index-words-0.is)
+    ∙ ap (λ bs. bytes_eq bs (codes "spaced")) (c.as_str.ensures.value ∙ ap string_bytes c.index-words-0.is)
     ∙ sym (first_word ws w some)
