@@ -36,10 +36,10 @@ module _ {R : Type 0} (m : Meaning R) where
       let c = get_or cs i 0 in
       let s = next_slot m x t c in
       let later = schedule m (after_run m x c) s.end (drop (i + 1) cs) in
-      let to-come : schedule m x t (drop i cs) ≡ s ∷ later = at_drop_more (schedule m x t) cs i 0 hc in
+      let to_come : schedule m x t (drop i cs) ≡ s ∷ later = at_drop_more (schedule m x t) cs i 0 hc in
       ap (λ ss. ss ++ later) (take_more_set slots i s hs)
       ∙ append_assoc (take i slots) (s ∷ []) later
-      ∙ ap (λ ss. take i slots ++ ss) (sym to-come)
+      ∙ ap (λ ss. take i slots ++ ss) (sym to_come)
       ∙ inv
 
 -- the places past the slot that is written keep what they held

@@ -4,7 +4,8 @@
 use anyhow::anyhow;
 use forecasting::lines::forecast;
 use forecasting::numbers::number;
-use std::env;
+use std::process::ExitCode;
+use std::{env, io};
 
 fn run(rt: &HostRuntime) -> anyhow::Result<()> {
     let heap = rt.alloc();
@@ -22,10 +23,10 @@ fn run(rt: &HostRuntime) -> anyhow::Result<()> {
     Ok(())
 }
 
-fn main(rt: HostRuntime) -> anyhow::Result<()> {
-    let outcome = run(&rt);
-    if let Err(fault) = &outcome {
+fn main(rt: HostRuntime) -> io::Result<ExitCode> {
+    if let Err(fault) = run(&rt) {
         eprintln!(rt; "forecast: {fault}")?;
+        return Ok(ExitCode::FAILURE);
     }
-    outcome
+    Ok(ExitCode::SUCCESS)
 }

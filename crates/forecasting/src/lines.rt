@@ -2,7 +2,7 @@ ghost use Rattle.std.specs.Prelude.{◌≡◌, ◌++◌, IfOk, Ok, OnOk};
 ghost use Rattle.budget.specs.Imports.{fileable, schedule};
 ghost use Rattle.server.specs.Row.{server};
 ghost use Rattle.forecasting.specs.declared.lines.Fault.TheVariants.{Refused, OutOfMemory};
-ghost use Rattle.forecasting.specs.Lines.{step_lines, after_step, steps, imports as import-lines, told, Tells, on_terms, foretold};
+ghost use Rattle.forecasting.specs.Lines.{step_lines, after_step, steps, imports as import_lines, told, Tells, on_terms, foretold};
 
 use budget::imports::{Slot, check_lengths, rest_long, schedule};
 use budget::row::BudgetRow;
@@ -93,7 +93,7 @@ fn push_steps(lines: &mut Vec<Line>, row: &ServerRow, slots: &[Slot]) -> Result<
 
 // A line for each import, after those that are there.
 fn push_imports(lines: &mut Vec<Line>, slots: &[Slot]) -> Result<(), AllocError>
-    ensures { OnOk result (lines.new.items ≡ lines.old.items ++ import-lines 1 slots.now) }
+    ensures { OnOk result (lines.new.items ≡ lines.old.items ++ import_lines 1 slots.now) }
 {
     let mut import = 1;
     for slot in slots {

@@ -3,10 +3,10 @@ use Rattle.std.proofs.Common.{ap}
 use Rattle.budget.specs.Meaning.{Sentences, SameTerms}
 use Rattle.server.specs.Row.{server}
 use Rattle.server.specs.declared.ServerRow.{ServerRow}
-use Rattle.server.specs.Keeps.{keeps as of-server}
+use Rattle.server.specs.Keeps.{keeps as of_server}
 use Rattle.spaced.specs.Row.{spaced}
 use Rattle.spaced.specs.declared.SpacedRow.{SpacedRow}
-use Rattle.spaced.specs.Keeps.{keeps as of-spaced}
+use Rattle.spaced.specs.Keeps.{keeps as of_spaced}
 use Rattle.mixed.specs.Row.{mixed}
 use Rattle.mixed.specs.declared.MixedRow.{MixedRow}
 use Rattle.mixed.specs.declared.MixedRow.TheVariants.{Server, Spaced}
@@ -24,21 +24,21 @@ spaced_terms t = record { rate = t.rate; ceiling = t.ceiling; threshold = t.thre
 
 pub keeps : Sentences mixed
 keeps = record {
-  rate_low = either _ of-server.rate_low of-spaced.rate_low;
-  rate_high = either _ of-server.rate_high of-spaced.rate_high;
-  ceiling_high = either _ of-server.ceiling_high of-spaced.ceiling_high;
-  threshold_high = either _ of-server.threshold_high of-spaced.threshold_high;
-  restart_terms = either _ (λ x. server_terms (of-server.restart_terms x)) (λ x. spaced_terms (of-spaced.restart_terms x));
-  rest_terms = either _ (λ x d. server_terms (of-server.rest_terms x d)) (λ x d. spaced_terms (of-spaced.rest_terms x d));
-  end_terms = either _ (λ x c. server_terms (of-server.end_terms x c)) (λ x c. spaced_terms (of-spaced.end_terms x c));
-  below_ceiling = either _ of-server.below_ceiling of-spaced.below_ceiling;
-  solvent = either _ of-server.solvent of-spaced.solvent;
-  awake = either _ of-server.awake of-spaced.awake;
-  rest_level = either _ of-server.rest_level of-spaced.rest_level;
-  rest_wake = either _ of-server.rest_wake of-spaced.rest_wake;
-  end_level = either _ of-server.end_level of-spaced.end_level;
-  restart_wake = either _ of-server.restart_wake of-spaced.restart_wake;
-  end_wake = either _ of-server.end_wake of-spaced.end_wake;
-  wake_high = either _ of-server.wake_high of-spaced.wake_high;
-  rest_rest = either _ (λ x d e within. ap Server (of-server.rest_rest x d e within)) (λ x d e within. ap Spaced (of-spaced.rest_rest x d e within));
+  rate_low = either _ of_server.rate_low of_spaced.rate_low;
+  rate_high = either _ of_server.rate_high of_spaced.rate_high;
+  ceiling_high = either _ of_server.ceiling_high of_spaced.ceiling_high;
+  threshold_high = either _ of_server.threshold_high of_spaced.threshold_high;
+  restart_terms = either _ (λ x. server_terms (of_server.restart_terms x)) (λ x. spaced_terms (of_spaced.restart_terms x));
+  rest_terms = either _ (λ x d. server_terms (of_server.rest_terms x d)) (λ x d. spaced_terms (of_spaced.rest_terms x d));
+  end_terms = either _ (λ x c. server_terms (of_server.end_terms x c)) (λ x c. spaced_terms (of_spaced.end_terms x c));
+  below_ceiling = either _ of_server.below_ceiling of_spaced.below_ceiling;
+  solvent = either _ of_server.solvent of_spaced.solvent;
+  awake = either _ of_server.awake of_spaced.awake;
+  rest_level = either _ of_server.rest_level of_spaced.rest_level;
+  rest_wake = either _ of_server.rest_wake of_spaced.rest_wake;
+  end_level = either _ of_server.end_level of_spaced.end_level;
+  restart_wake = either _ of_server.restart_wake of_spaced.restart_wake;
+  end_wake = either _ of_server.end_wake of_spaced.end_wake;
+  wake_high = either _ of_server.wake_high of_spaced.wake_high;
+  rest_rest = either _ (λ x d e within. ap Server (of_server.rest_rest x d e within)) (λ x d e within. ap Spaced (of_spaced.rest_rest x d e within));
 }

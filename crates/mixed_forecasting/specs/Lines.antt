@@ -6,8 +6,8 @@ use Rattle.measures.specs.declared.refusal.Refusal.{Refusal}
 use Rattle.budget.specs.Imports.{rest_long, schedule, fileable}
 use Rattle.budget.specs.declared.imports.Slot.{Slot}
 use Rattle.budget.specs.Meaning.{Meaning}
-use Rattle.server.specs.Row.{made as server-made}
-use Rattle.spaced.specs.Row.{made as spaced-made}
+use Rattle.server.specs.Row.{made as server_made}
+use Rattle.spaced.specs.Row.{made as spaced_made}
 use Rattle.mixed.specs.Row.{mixed}
 use Rattle.mixed.specs.declared.MixedRow.{MixedRow}
 use Rattle.mixed.specs.declared.MixedRow.TheVariants.{Server, Spaced}
@@ -64,11 +64,11 @@ on_row row cs = or_fault (row >>= λ x. fileable cs >>= λ _. Ok (told mixed x (
 -- what a rate, a ceiling, a threshold and one length or more ask for, on a server row
 abbrev pub foretold_server : List ℕ → Result (List Line) Fault
 foretold_server ns =
-    cond (nat_lt (length ns) 4) (Err TooFewNumbers) (on_row (server-made (slice_index ns 0) (slice_index ns 1) (slice_index ns 2) >>= λ x. Ok (Server x)) (drop 3 ns))
+    cond (nat_lt (length ns) 4) (Err TooFewNumbers) (on_row (server_made (slice_index ns 0) (slice_index ns 1) (slice_index ns 2) >>= λ x. Ok (Server x)) (drop 3 ns))
 
 -- what a rate and one length or more ask for, on a spaced row
 abbrev pub foretold_spaced : List ℕ → Result (List Line) Fault
-foretold_spaced ns = cond (nat_lt (length ns) 2) (Err TooFewNumbers) (on_row (spaced-made (slice_index ns 0) >>= λ x. Ok (Spaced x)) (drop 1 ns))
+foretold_spaced ns = cond (nat_lt (length ns) 2) (Err TooFewNumbers) (on_row (spaced_made (slice_index ns 0) >>= λ x. Ok (Spaced x)) (drop 1 ns))
 
 -- what a fault says of what was asked for; want of memory says nothing
 abbrev pub Excused : {A : Type 0} → Fault → Result A Fault → Type 0

@@ -1,7 +1,7 @@
 ghost use Rattle.std.specs.Prelude.{◌≡◌, ◌++◌, IfOk, Ok, OnOk};
 ghost use Rattle.budget.specs.Imports.{fileable, schedule};
 ghost use Rattle.mixed.specs.Row.{mixed};
-ghost use Rattle.mixed_forecasting.specs.Lines.{step_lines, after_step, steps, imports as import-lines, told, Answers, on_row, foretold_server, foretold_spaced};
+ghost use Rattle.mixed_forecasting.specs.Lines.{step_lines, after_step, steps, imports as import_lines, told, Answers, on_row, foretold_server, foretold_spaced};
 
 use budget::imports::{Slot, check_lengths, rest_long, schedule};
 use budget::row::BudgetRow;
@@ -52,7 +52,7 @@ fn push_steps(lines: &mut Vec<Line>, row: &MixedRow, slots: &[Slot]) -> Result<(
 
 // A line for each import, after those that are there.
 fn push_imports(lines: &mut Vec<Line>, slots: &[Slot]) -> Result<(), AllocError>
-    ensures { OnOk result (lines.new.items ≡ lines.old.items ++ import-lines 1 slots.now) }
+    ensures { OnOk result (lines.new.items ≡ lines.old.items ++ import_lines 1 slots.now) }
 {
     let mut import = 1;
     for slot in slots {

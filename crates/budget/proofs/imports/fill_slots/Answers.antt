@@ -1,6 +1,5 @@
 use Rattle.std.proofs.Common.{◌≡◌, ◌+◌, ◌<◌, [], ◌++◌, length, get_or, take, drop, set, sym, ap, ◌∙◌, subst, arith, take_at}
 use Rattle.std.proofs.lemmas.List.{at_drop_all}
-use Rattle.measures.specs.Limits.{last}
 use Rattle.budget.specs.Imports.{next_slot, schedule, written_over, AllSoonest}
 use Rattle.budget.proofs.Resting.{wake_limit, all_soonest}
 use Rattle.budget.proofs.Filling.{lengths_at, schedulable_parts, length-schedule, slots_more, rest_more, slots_all}
@@ -40,9 +39,9 @@ returns g c =
     let cs = c.args.lengths.now in
     let n = length cs in
     let all = schedule m x c.args.tick cs in
-    let at-end : c.loop-i.i ≡ n = omega arith in
+    let at_end : c.loop-i.i ≡ n = omega arith in
     let front : take c.loop-i.i c.loop-i.slots ++ [] ≡ all = ap (λ ss. take c.loop-i.i c.loop-i.slots ++ ss) (sym (at_drop_all (schedule m c.loop-i.next c.loop-i.at) cs c.loop-i.i c.loop-i-test.false)) ∙ c.loop-i.invariant.0 in
-    let listed : c.loop-i.slots ≡ written_over all c.args.slots.now = slots_all c.loop-i.slots c.args.slots.now all c.loop-i.i (length-schedule m x c.args.tick cs ∙ sym at-end) front c.loop-i.invariant.1 in
+    let listed : c.loop-i.slots ≡ written_over all c.args.slots.now = slots_all c.loop-i.slots c.args.slots.now all c.loop-i.i (length-schedule m x c.args.tick cs ∙ sym at_end) front c.loop-i.invariant.1 in
     let first : take n c.loop-i.slots ≡ all = ap (take n) listed ∙ take_at all _ n (length-schedule m x c.args.tick cs) in
     record {
       listed = listed;

@@ -1,7 +1,6 @@
-use Rattle.std.proofs.Common.{◌≡◌, ◌<◌, length, string_bytes, codes, sym, ap, ◌∙◌, subst, arith, rules}
+use Rattle.std.proofs.Common.{◌≡◌, ◌<◌, length, string_bytes, codes, sym, ap, ◌∙◌, rules}
 use Rattle.std.specs.Str.{bytes_eq}
 use Rattle.std.proofs.lemmas.Slice.Eq.{bytes_eq-Decides}
-use Rattle.mixed_forecasting.specs.Words.{asks_spaced}
 use Rattle.mixed_forecasting.proofs.Read.{first_word}
 use Rattle.mixed_forecasting.proofs.words.asks_spaced.Goals as goal
 

@@ -1,4 +1,4 @@
-use Rattle.std.proofs.Common.{◌≡◌, ◌+◌, [], ◌∷◌, ◌++◌, get_or, drop, vec_items, string_bytes, sym, ap, ◌∙◌}
+use Rattle.std.proofs.Common.{◌≡◌, ◌+◌, get_or, drop, vec_items, string_bytes, sym, ap, ◌∙◌}
 use Rattle.forecasting.specs.Numbers.{number_of}
 use Rattle.mixed_forecasting.specs.Words.{numbers_at}
 use Rattle.mixed_forecasting.proofs.Read.{followed, followed_none, numbers_more, no_number, numbers_all}

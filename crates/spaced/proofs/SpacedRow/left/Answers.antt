@@ -1,4 +1,4 @@
-use Rattle.std.proofs.Common.{◌≡◌, ◌*◌, ◌≤◌, min, sym, ap, ◌∙◌, subst, rules}
+use Rattle.std.proofs.Common.{◌≡◌, ◌*◌, ◌≤◌, min, sym, ap, ◌∙◌, subst}
 use Rattle.measures.specs.Limits.{last}
 use Rattle.spaced.specs.Row.{rate_of, left_of, pause}
 use Rattle.spaced.specs.Keeps.{debt_high}
