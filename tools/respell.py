@@ -2,9 +2,9 @@
 """Brings the repository's own definitions and lemmas to the spelling of today's library: words in snake case, types in
 camel case, a test named as the function that it defines. Run once, at the top of the repository, after the kit's port.py.
 
-A name is the repository's own where a file of specs/ or proofs/ defines it; the goals and the invariants, whose names the
-checker makes, are left as they are. The script changes whole names alone, in .antt and .rt files, and stops where two
-names of one file would fall together."""
+A name is the repository's own where a file of specs/ or proofs/ defines it, but for goals and invariants, whose names the
+checker makes. The script changes whole names alone, in .antt and .rt files, also where the checker names a step by the
+same letters, and stops where two names that one file defines would fall together."""
 import pathlib
 import re
 import sys

@@ -1,5 +1,5 @@
 // Forecasts for many command lines: reads the words of one from each line of standard input, and prints the command and then what
-// `forecast` answers to it.
+// `mixed_forecasting::words::forecast` answers to it.
 #![tactic(auto)]
 
 use mixed_forecasting::words::forecast;
