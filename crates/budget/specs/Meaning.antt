@@ -59,3 +59,16 @@ pub record Sentences {R : Type 0} (m : Meaning R) : Type 0 where
   pub wake_high : (x : R) → m.wake x ≤ full_wait (m.rate x) (m.threshold x) last
   -- a rest of d and then of e ticks leaves what a rest of d + e ticks leaves
   pub rest_rest : (x : R) (d e : ℕ) → d + e ≤ last → m.rested (m.rested x d) e ≡ m.rested x (d + e)
+
+-- A row that holds another, as `hold` makes it of that one, behaves as the row it holds: in each answer, and in what it holds after each
+-- change.
+pub record BehavesAsHeld {A B : Type 0} (m : Meaning A) (n : Meaning B) (hold : A → B) : Type 0 where
+  pub level : (x : A) → n.level (hold x) ≡ m.level x
+  pub wake : (x : A) → n.wake (hold x) ≡ m.wake x
+  pub able : (x : A) → n.able (hold x) ≡ m.able x
+  pub rate : (x : A) → n.rate (hold x) ≡ m.rate x
+  pub ceiling : (x : A) → n.ceiling (hold x) ≡ m.ceiling x
+  pub threshold : (x : A) → n.threshold (hold x) ≡ m.threshold x
+  pub restarted : (x : A) → n.restarted (hold x) ≡ hold (m.restarted x)
+  pub rested : (x : A) (d : ℕ) → n.rested (hold x) d ≡ hold (m.rested x d)
+  pub ended : (x : A) (c : ℕ) → n.ended (hold x) c ≡ hold (m.ended x c)

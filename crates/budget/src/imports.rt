@@ -1,4 +1,4 @@
-ghost use Rattle.std.specs.Prelude.{◌≡◌, ◌+◌, ◌^◌, ◌<◌, ◌≤◌, true, length, take, if◌then◌else◌};
+ghost use Rattle.std.specs.Prelude.{◌≡◌, ◌+◌, ◌^◌, ◌<◌, ◌≤◌, length, take, Ok, OnOk, OnErr};
 ghost use Rattle.measures.specs.Limits.{last};
 ghost use Rattle.budget.specs.Imports.{rest_long, next_slot, after_run, schedule, are_lengths, fileable, schedulable, written_over, AllSoonest};
 
@@ -11,6 +11,13 @@ use measures::refusal::Refusal;
 pub struct Slot {
     pub start: u64,
     pub end: u64,
+}
+
+// A row, and the tick up to which it has rested.
+#[derive(Clone, Copy)]
+pub struct RowAt<R> {
+    pub row: R,
+    pub tick: u64,
 }
 
 // Rests a row for any number of ticks, in counts of at most the last tick.
@@ -37,68 +44,71 @@ pub fn check_lengths(lengths: &[u64]) -> Result<(), Refusal>
 }
 
 // What comes next on a row alone, from `tick` on: the slots of imports of these lengths, each begun as soon as the row is able. They are
-// written to the first places of `slots`. No, and nothing is written, for a tick above the last tick, more than 16 lengths, fewer places
-// than lengths, or an unlawful length.
-pub fn schedule<R: BudgetRow>(row: &R, tick: u64, lengths: &[u64], slots: &mut [Slot]) -> bool
+// written to the first places of `slots`, so that no memory is asked for. Refused, and nothing is written, for a tick above the last tick, lengths that cannot be filed,
+// or fewer places than lengths.
+pub fn schedule<R: BudgetRow>(
+    row: &R,
+    tick: u64,
+    lengths: &[u64],
+    slots: &mut [Slot],
+) -> Result<(), Refusal>
     ensures answer { result ≡ schedulable tick lengths.now (length slots.old) }
-    ensures listed { slots.new ≡ (if result then written_over (schedule R.meaning row.now tick lengths.now) slots.old else slots.old) }
-    ensures soonest { result ≡ true → AllSoonest R.meaning row.now tick lengths.now (take (length lengths.now) slots.new) }
+    ensures listed { OnOk result (slots.new ≡ written_over (schedule R.meaning row.now tick lengths.now) slots.old) }
+    ensures unchanged { OnErr result (slots.new ≡ slots.old) }
+    ensures soonest { OnOk result (AllSoonest R.meaning row.now tick lengths.now (take (length lengths.now) slots.new)) }
 {
-    if !is_schedulable(tick, lengths, slots.len()) {
-        return false;
-    }
+    check_schedule(tick, lengths, slots.len())?;
     fill_slots(row, tick, lengths, slots);
-    true
+    Ok(())
 }
 
-fn is_schedulable(tick: u64, lengths: &[u64], places: usize) -> bool
+fn check_schedule(tick: u64, lengths: &[u64], places: usize) -> Result<(), Refusal>
     ensures { result ≡ schedulable tick lengths.now places }
 {
-    is_tick(tick)
-        && lengths.len() as u64 <= MOST_WAITING
-        && lengths.len() <= places
-        && all_lengths(lengths)
+    if !is_tick(tick) {
+        return Err(Refusal::TickOutOfRange);
+    }
+    check_lengths(lengths)?;
+    if lengths.len() > places {
+        return Err(Refusal::ListTooShort);
+    }
+    Ok(())
 }
 
 // Whether each of these is a length that an import may declare.
 fn all_lengths(lengths: &[u64]) -> bool
     ensures { result ≡ are_lengths lengths.now }
 {
-    for length in lengths {
-        if !is_length(*length) {
-            return false;
-        }
-    }
-    true
+    lengths.iter().all(|length| is_length(*length))
 }
 
 fn fill_slots<R: BudgetRow>(row: &R, tick: u64, lengths: &[u64], slots: &mut [Slot])
-    requires { schedulable tick lengths.now (length slots.old) ≡ true }
+    requires { schedulable tick lengths.now (length slots.old) ≡ Ok tt }
     ensures listed { slots.new ≡ written_over (schedule R.meaning row.now tick lengths.now) slots.old }
     ensures soonest { AllSoonest R.meaning row.now tick lengths.now (take (length lengths.now) slots.new) }
 {
-    let mut next = *row;
-    let mut at = tick;
+    let mut next = RowAt { row: *row, tick };
+    // by index, since a proof knows nothing of a slice that was written through `iter_mut().zip(..)`
     for (i, length) in lengths.iter().enumerate() {
-        let slot = run_next(&mut next, at, *length);
-        slots[i] = slot;
-        at = slot.end;
+        slots[i] = next.run(*length);
     }
 }
 
-// One import: the row rests until it is able, and runs for `length` ticks.
-fn run_next<R: BudgetRow>(row: &mut R, tick: u64, length: u64) -> Slot
-    requires told { tick + R.meaning.wake row.old + length < 2 ^ 64 }
-    requires lawful { length ≤ last }
-    ensures slot { result ≡ next_slot R.meaning row.old tick length }
-    ensures left { row.new ≡ after_run R.meaning row.old length }
-{
-    let wait = row.wake();
-    let start = tick + wait;
-    rest_long(row, wait);
-    row.ended(length);
-    Slot {
-        start,
-        end: start + length,
+impl<R: BudgetRow> RowAt<R> {
+    // One import: the row rests until it is able, and runs for `length` ticks.
+    fn run(&mut self, length: u64) -> Slot
+        requires told { self.old.tick + R.meaning.wake self.old.row + length < 2 ^ 64 }
+        requires lawful { length ≤ last }
+        ensures slot { result ≡ next_slot R.meaning self.old.row self.old.tick length }
+        ensures row { self.new.row ≡ after_run R.meaning self.old.row length }
+        ensures tick { self.new.tick ≡ (next_slot R.meaning self.old.row self.old.tick length).end }
+    {
+        let wait = self.row.wake();
+        rest_long(&mut self.row, wait);
+        self.row.ended(length);
+        let start = self.tick + wait;
+        let end = start + length;
+        self.tick = end;
+        Slot { start, end }
     }
 }

@@ -10,6 +10,8 @@ pub trait BudgetRow: Copy {
     fn restart(&mut self)
         ensures { self.new ≡ meaning.restarted self.old };
 
+    // A denied count is answered by no, and not by a refusal: the rule gives it no number.
+
     // So many ticks have passed without a run. No, and nothing changes, above the last tick.
     fn rest(&mut self, ticks: u64) -> bool
         ensures answer { result ≡ is_tick ticks }
@@ -32,4 +34,17 @@ pub trait BudgetRow: Copy {
         ensures { result ≡ meaning.rate self.now };
 
     ghost sentences: { Sentences meaning };
+}
+
+// A row that also tells its level and the terms that bound it.
+pub trait LevelRow: BudgetRow {
+    // In thousandths of a tick, as the next two, and below 0 in debt.
+    fn level(&self) -> i64
+        ensures { result ≡ Self.meaning.level self.now };
+
+    fn ceiling(&self) -> u64
+        ensures { result ≡ Self.meaning.ceiling self.now };
+
+    fn threshold(&self) -> u64
+        ensures { result ≡ Self.meaning.threshold self.now };
 }

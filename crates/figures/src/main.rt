@@ -2,37 +2,36 @@
 // for each its rate and the starts and ends of its imports, to be held against figures that were computed by other means.
 #![tactic(auto)]
 
-use anyhow::anyhow;
+use anyhow::{anyhow, bail};
 use budget::imports::{Slot, schedule};
-use measures::limits::MOST_WAITING;
 use server::ServerRow;
 use std::alloc::Global;
 
-fn numbers(heap: Global, line: &str) -> anyhow::Result<Vec<u64>> {
-    let mut all = Vec::new(heap);
-    for word in line.split(' ') {
-        all.push(word.parse::<u64>()?)?;
-    }
-    Ok(all)
+fn read_numbers(heap: Global, line: &str) -> anyhow::Result<Vec<u64>> {
+    line.split(' ')
+        .map(|word| -> anyhow::Result<u64> { Ok(word.parse::<u64>()?) })
+        .try_collect(heap)
 }
 
 fn answer(rt: &HostRuntime, numbers: &[u64]) -> anyhow::Result<()> {
-    let mut slots = [Slot { start: 0, end: 0 }; MOST_WAITING as usize];
-    if numbers.len() < 4 {
-        return Err(anyhow!("a line has fewer than four numbers"));
+    match numbers {
+        [rate, ceiling, threshold, lengths @ ..] if !lengths.is_empty() => {
+            let Ok(row) = ServerRow::new(*rate, *ceiling, *threshold) else {
+                bail!("no such row");
+            };
+            print_slots(rt, &row, lengths)
+        }
+        _ => Err(anyhow!("a line has fewer than four numbers")),
     }
-    let Ok(row) = ServerRow::new(numbers[0], numbers[1], numbers[2]) else {
-        return Err(anyhow!("no such row"));
-    };
-    let lengths = &numbers[3..];
-    if !schedule(&row, 0, lengths, &mut slots) {
-        return Err(anyhow!("no schedule"));
+}
+
+fn print_slots(rt: &HostRuntime, row: &ServerRow, lengths: &[u64]) -> anyhow::Result<()> {
+    let mut slots = vec![in rt.alloc(); Slot { start: 0, end: 0 }; lengths.len()]?;
+    if schedule(row, 0, lengths, slots.as_mut_slice()).is_err() {
+        bail!("no schedule");
     }
-    let rate = numbers[0];
-    print!(rt; "{rate}:")?;
-    for slot in slots.iter().take(lengths.len()) {
-        let start = slot.start;
-        let end = slot.end;
+    print!(rt; "{}:", row.rate)?;
+    for Slot { start, end } in slots.iter() {
         print!(rt; " {start} {end}")?;
     }
     println!(rt; "")?;
@@ -41,8 +40,8 @@ fn answer(rt: &HostRuntime, numbers: &[u64]) -> anyhow::Result<()> {
 
 fn main(rt: HostRuntime) -> anyhow::Result<()> {
     for line in rt.lines(rt.alloc()) {
-        let asked = numbers(rt.alloc(), line?.as_str())?;
-        answer(&rt, asked.as_slice())?;
+        let numbers = read_numbers(rt.alloc(), line?.as_str())?;
+        answer(&rt, numbers.as_slice())?;
     }
     Ok(())
 }

@@ -2,6 +2,7 @@
 #![tactic(auto)]
 
 use anyhow::anyhow;
+use forecast_lines::Rule;
 use forecasting::lines::forecast;
 use forecasting::numbers::number;
 use std::process::ExitCode;
@@ -9,15 +10,13 @@ use std::{env, io};
 
 fn run(rt: &HostRuntime) -> anyhow::Result<()> {
     let heap = rt.alloc();
-    let mut numbers = Vec::new(heap);
-    for word in env::args(rt)?.skip(1) {
-        let Some(n) = number(word.as_str()) else {
-            return Err(anyhow!(format!(in heap; "'{word}' is not a number")?));
-        };
-        numbers.push(n)?;
-    }
-    let lines = forecast(heap, numbers.as_slice())?;
-    for line in lines.iter() {
+    let numbers: Vec<u64> = env::args(rt)?
+        .skip(1)
+        .map(|word| -> anyhow::Result<u64> {
+            number(word.as_str()).ok_or_else(|| anyhow!("'{word}' is not a number"))
+        })
+        .try_collect(heap)?;
+    for line in forecast(heap, Rule::Server, numbers.as_slice())?.iter() {
         println!(rt; "{line}")?;
     }
     Ok(())

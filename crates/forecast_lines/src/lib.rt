@@ -6,11 +6,19 @@ ghost use Rattle.forecast_lines.specs.declared.Fault.TheVariants.{Refused, OutOf
 
 use measures::refusal::Refusal;
 use std::alloc::{AllocError, AllocFailed};
+use thiserror::Error;
 
 pub mod text;
 
-// One line of a forecast. Imports count from 1, and a wait of 0 stands for a row that is able.
-#[derive(Clone, Copy)]
+// The budget rule of the row that a forecast is asked for.
+#[derive(Clone, Copy, PartialEq, Eq, Debug)]
+pub enum Rule {
+    Server,
+    Spaced,
+}
+
+// One line of a forecast. Imports count from 1, and a wait is the wake of the row, which is 0 just when the row is able.
+#[derive(Clone, Copy, PartialEq, Eq, Debug)]
 pub enum Line {
     Terms {
         rate: u64,
@@ -43,13 +51,17 @@ pub enum Line {
 }
 
 // Why there is no forecast.
-#[derive(Clone, Copy, Debug)]
+#[derive(Clone, Copy, PartialEq, Eq, Debug, Error)]
 pub enum Fault {
     // the word at this place, counted from 1
+    #[error("word {0} is not a number")]
     NotANumber(usize),
-    // the numbers are not the terms of a row and one length or more
-    TooFewNumbers,
+    // the numbers are not the terms of a row of this rule and one length or more
+    #[error("usage: forecast {0}")]
+    TooFewNumbers(Rule),
+    #[error("{0}")]
     Refused(Refusal),
+    #[error("out of memory")]
     OutOfMemory,
 }
 

@@ -1,6 +1,5 @@
 // How the lines of a forecast read.
-use crate::{Fault, Line};
-use std::error::Error;
+use crate::{Line, Rule};
 use std::fmt;
 
 impl fmt::Display for Line {
@@ -11,10 +10,7 @@ impl fmt::Display for Line {
                 ceiling,
                 threshold,
             } => write!(f, "rate {rate}, ceiling {ceiling}, threshold {threshold}"),
-            Line::Opening { level, wait } => {
-                let wait = Wait(wait);
-                write!(f, "tick 0: level {level}, {wait}")
-            }
+            Line::Opening { level, wait } => { write!(f, "tick 0: level {level}, {}", Wait(wait)) }
             Line::Begin {
                 tick,
                 import,
@@ -26,14 +22,12 @@ impl fmt::Display for Line {
                 held,
                 level,
                 wait,
-            } => {
-                let held = Ticks(held);
-                let wait = Wait(wait);
-                write!(
-                    f,
-                    "tick {tick}: import {import} ends, held {held}, level {level}, {wait}"
-                )
-            }
+            } => write!(
+                f,
+                "tick {tick}: import {import} ends, held {}, level {level}, {}",
+                Counted(held),
+                Wait(wait)
+            ),
             Line::Import {
                 import,
                 start,
@@ -47,16 +41,15 @@ impl fmt::Display for Line {
     }
 }
 
+// So many ticks.
 #[derive(Clone, Copy)]
-struct Ticks(u64);
+struct Counted(u64);
 
-impl fmt::Display for Ticks {
+impl fmt::Display for Counted {
     fn fmt<W: fmt::Write>(&self, f: &mut fmt::Formatter<W>) -> fmt::Result {
-        let ticks = self.0;
-        if ticks == 1 {
-            f.write_str("1 tick")
-        } else {
-            write!(f, "{ticks} ticks")
+        match self.0 {
+            1 => f.write_str("1 tick"),
+            ticks => write!(f, "{ticks} ticks"),
         }
     }
 }
@@ -67,28 +60,19 @@ struct Wait(u64);
 
 impl fmt::Display for Wait {
     fn fmt<W: fmt::Write>(&self, f: &mut fmt::Formatter<W>) -> fmt::Result {
-        if self.0 == 0 {
-            return f.write_str("able");
+        match self.0 {
+            0 => f.write_str("able"),
+            ticks => write!(f, "{} to wait", Counted(ticks)),
         }
-        let ticks = Ticks(self.0);
-        write!(f, "{ticks} to wait")
     }
 }
 
-impl fmt::Display for Fault {
+// The words that ask for a forecast on a row of the rule.
+impl fmt::Display for Rule {
     fn fmt<W: fmt::Write>(&self, f: &mut fmt::Formatter<W>) -> fmt::Result {
-        match *self {
-            Fault::NotANumber(place) => write!(f, "word {place} is not a number"),
-            Fault::TooFewNumbers => f.write_str(
-                "usage: forecast RATE CEILING THRESHOLD LENGTH..., or: forecast spaced RATE LENGTH...",
-            ),
-            Fault::Refused(refusal) => {
-                let number = refusal.number();
-                write!(f, "refusal {number}: {refusal:?}")
-            }
-            Fault::OutOfMemory => f.write_str("out of memory"),
-        }
+        f.write_str(match self {
+            Rule::Server => "RATE CEILING THRESHOLD LENGTH...",
+            Rule::Spaced => "spaced RATE LENGTH...",
+        })
     }
 }
-
-impl Error for Fault {}

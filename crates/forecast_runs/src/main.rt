@@ -2,14 +2,15 @@
 // `mixed_forecasting::words::forecast` answers to it.
 #![tactic(auto)]
 
+use forecast_lines::{Fault, Rule};
 use mixed_forecasting::words::forecast;
 
 fn answer(rt: &HostRuntime, command: &str) -> anyhow::Result<()> {
     let heap = rt.alloc();
-    let mut words = Vec::new(heap);
-    for word in command.split(' ') {
-        words.push(String::from_str(heap, word)?)?;
-    }
+    let words: Vec<String> = command
+        .split(' ')
+        .map(|word| String::from_str(heap, word))
+        .try_collect(heap)?;
     println!(rt; "$ forecast {command}")?;
     match forecast(heap, words.as_slice()) {
         Ok(lines) => {
@@ -17,6 +18,11 @@ fn answer(rt: &HostRuntime, command: &str) -> anyhow::Result<()> {
                 println!(rt; "{line}")?;
             }
         }
+        Err(Fault::TooFewNumbers(_)) => println!(rt;
+            "forecast: usage: forecast {}, or: forecast {}",
+            Rule::Server,
+            Rule::Spaced
+        )?,
         Err(fault) => println!(rt; "forecast: {fault}")?,
     }
     Ok(())

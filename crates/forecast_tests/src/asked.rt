@@ -1,6 +1,9 @@
-use forecasting::lines::{Line, forecast};
+use forecast_lines::{Fault, Line, Rule};
+use forecasting::lines::{forecast, forecast_row};
 use forecasting::numbers::number;
 use measures::limits::LAST_TICK;
+use measures::refusal::Refusal;
+use spaced::SpacedRow;
 use std::alloc::Global;
 use std::process::Abort;
 use std::test::Fail;
@@ -19,7 +22,7 @@ fn words_as_numbers(rt: HostRuntime) {
 
 // What is said in the place of a forecast.
 fn check_fault(rt: &impl Abort, heap: Global, numbers: &[u64], text: &str) -> Result<(), Fail> {
-    match forecast(heap, numbers) {
+    match forecast(heap, Rule::Server, numbers) {
         Ok(_) => Err(Fail::new("a forecast where there should be none")),
         Err(fault) => {
             assert!(rt; fault.to_string(heap)?.as_str() == text);
@@ -76,7 +79,7 @@ fn the_last_of_sixteen(rt: HostRuntime) -> Result<(), Fail> {
     let mut numbers = [1_000_000; 19];
     numbers[0] = 500;
     numbers[2] = 0;
-    let lines = forecast(rt.alloc(), &numbers)?;
+    let lines = forecast(rt.alloc(), Rule::Server, &numbers)?;
     assert_eq!(rt; lines.len(), 50);
     let last = Line::Import {
         import: 16,
@@ -85,5 +88,37 @@ fn the_last_of_sixteen(rt: HostRuntime) -> Result<(), Fail> {
         response: 31_000_000,
     };
     assert_eq!(rt; lines.last().copied(), Some(last));
+    Ok(())
+}
+
+#[test]
+fn too_few_numbers_for_a_spaced_row(rt: HostRuntime) -> Result<(), Fail> {
+    let heap = rt.alloc();
+    let usage = "usage: forecast spaced RATE LENGTH...";
+    for numbers in [[].as_slice(), &[300]] {
+        let fault = forecast(heap, Rule::Spaced, numbers).err();
+        assert_eq!(rt; fault, Some(Fault::TooFewNumbers(Rule::Spaced)));
+    }
+    let text = Fault::TooFewNumbers(Rule::Spaced).to_string(heap)?;
+    assert!(rt; text.as_str() == usage);
+    Ok(())
+}
+
+// A run of 1 tick on a spaced row of rate 300 is followed by a pause of 3.
+#[test]
+fn imports_on_a_row_that_is_there(rt: HostRuntime) -> Result<(), Fail> {
+    let row = SpacedRow::new(300)?;
+    let lines = forecast_row(rt.alloc(), &row, &[1, 1])?;
+    let last = Line::Import {
+        import: 2,
+        start: 4,
+        end: 5,
+        response: 5,
+    };
+    assert_eq!(rt; lines.last().copied(), Some(last));
+    assert_eq!(rt;
+        forecast_row(rt.alloc(), &row, &[1, 0]).err(),
+        Some(Fault::Refused(Refusal::LengthOutOfRange))
+    );
     Ok(())
 }

@@ -1,43 +1,53 @@
--- What is foretold, once the checks have answered.
-use Rattle.std.proofs.Common.{◌≡◌, ℕ, ◌≤◌, Bool, true, false, cond, not, ltb, leb, List, length, take, Ok, Err, Result, refl, ap, ◌∙◌, arith, take_at}
-use Rattle.std.proofs.lemmas.Bool.{cond-true, le-leb, ltb-false, and_from}
-use Rattle.measures.specs.Limits.{most_waiting}
+-- What is told of a mixed row is what numbers ask for, where it holds the row that is made of the first of them.
+use Rattle.std.proofs.Common.{◌≡◌, ℕ, ◌+◌, ◌-◌, ◌<◌, false, cond, List, length, get_or, take, drop, ◌==◌, nat_lt, Ok, Err, Result, Vec, sym, ap, ◌∙◌, subst, arith, length-drop}
+use Rattle.std.specs.declared.alloc.Global.{Global}
+use Rattle.std.proofs.Math.Seq.{take-length}
+use Rattle.std.proofs.lemmas.Bool.{cond-false, eqb-false, le-ltb}
 use Rattle.measures.specs.declared.refusal.Refusal.{Refusal}
-use Rattle.measures.specs.declared.refusal.Refusal.TheVariants.{LengthOutOfRange, QueueFull}
-use Rattle.budget.specs.Imports.{schedule, fileable, schedulable, are_lengths, written_over}
-use Rattle.budget.specs.declared.imports.Slot.{Slot}
-use Rattle.budget.proofs.Filling.{length-schedule}
-use Rattle.server.specs.Row.{server, made}
+use Rattle.budget.specs.Meaning.{Meaning, BehavesAsHeld}
+use Rattle.server.specs.Row.{made as server_made}
 use Rattle.server.specs.declared.ServerRow.{ServerRow}
-use Rattle.forecasting.specs.Lines.{told, on_terms, or_fault, ◌>>=◌}
-use Rattle.forecasting.specs.declared.lines.Fault.TheVariants.{Refused}
+use Rattle.spaced.specs.Row.{made as spaced_made}
+use Rattle.spaced.specs.declared.SpacedRow.{SpacedRow}
+use Rattle.mixed.specs.Row.{mixed}
+use Rattle.mixed.specs.declared.MixedRow.{MixedRow}
+use Rattle.mixed.specs.declared.MixedRow.TheVariants.{Server, Spaced}
+use Rattle.mixed.proofs.Held.{server_held, spaced_held}
+use Rattle.forecast_lines.specs.declared.Line.{Line}
+use Rattle.forecast_lines.specs.declared.Fault.{Fault}
+use Rattle.forecast_lines.specs.declared.Fault.TheVariants.{TooFewNumbers}
+use Rattle.forecast_lines.specs.declared.Rule.{Rule}
+use Rattle.forecast_lines.specs.declared.Rule.TheVariants as rules
+use Rattle.forecasting.specs.Lines.{on_row, foretold, Answers}
+use Rattle.forecasting.proofs.Held.{held_row}
 
-module _ (rate ceiling threshold : ℕ) (cs : List ℕ) (x : ServerRow) (row : made rate ceiling threshold ≡ Ok x) where
-  after_row : on_terms rate ceiling threshold cs ≡ or_fault (fileable cs >>= λ _. Ok (told x (schedule server x 0 cs)))
-  after_row = ap (λ m. or_fault (m >>= λ y. fileable cs >>= λ _. Ok (told y (schedule server y 0 cs)))) row
+-- what comes after the first k numbers
+abbrev pub rest : ℕ → List ℕ → List ℕ
+rest k ns = take (length ns - k) (drop k ns)
 
-  pub refused_lengths : (r : Refusal) → fileable cs ≡ Err r → on_terms rate ceiling threshold cs ≡ Err (Refused r)
-  refused_lengths r e = after_row ∙ ap (λ f. or_fault (f >>= λ _. Ok (told x (schedule server x 0 cs)))) e
+-- the first k numbers are terms, of which a row x is made, and the others are lengths, of which there is one or more
+asked : {R : Type 0} {m : Meaning R} {hold : R → MixedRow} → BehavesAsHeld m mixed hold
+    → (k : ℕ) (ns : List ℕ) (made : Result R Refusal) (x : R) (none : Result (List Line) Fault) → false ≡ (length (rest k ns) == 0) → Ok x ≡ made
+    → on_row mixed (Ok (hold x)) (rest k ns) ≡ cond (nat_lt (length ns) (k + 1)) none (on_row m made (drop k ns))
+asked {m = m} {hold = hold} b k ns made x none some is_made =
+    let all : rest k ns ≡ drop k ns = ap (λ j. take j (drop k ns)) (sym (length-drop k ns)) ∙ take-length (drop k ns) in
+    let empty = eqb-false (length (rest k ns)) 0 (sym some) in
+    let more : k < length ns = grind (arith, ap length all, length-drop k ns, empty) in
+    let enough : nat_lt (length ns) (k + 1) ≡ false = le-ltb (length ns) (k + 1) (omega arith) in
+    ap (on_row mixed (Ok (hold x))) all
+    ∙ held_row b x (drop k ns)
+    ∙ ap (λ row. on_row m row (drop k ns)) is_made
+    ∙ sym (cond-false (nat_lt (length ns) (k + 1)) none _ enough)
 
-  pub told_lengths : fileable cs ≡ Ok tt → on_terms rate ceiling threshold cs ≡ Ok (told x (schedule server x 0 cs))
-  told_lengths e = after_row ∙ ap (λ f. or_fault (f >>= λ _. Ok (told x (schedule server x 0 cs)))) e
+module _ (ns : List ℕ) (rule : Rule) (row : MixedRow) (answer : Result (Vec Line Global) Fault) where
+  pub asked_server : (x : ServerRow) → rule ≡ rules.Server → row ≡ Server x → false ≡ (length (rest 3 ns) == 0) → Ok x ≡ server_made (get_or ns 0 0) (get_or ns 1 0) (get_or ns 2 0)
+      → Answers answer (on_row mixed (Ok row) (rest 3 ns)) → Answers answer (foretold rule ns)
+  asked_server x is_rule is_row some made =
+      subst (Answers answer)
+      (ap (λ y. on_row mixed (Ok y) (rest 3 ns)) is_row ∙ asked server_held 3 ns _ x (Err (TooFewNumbers rules.Server)) some made ∙ ap (λ r. foretold r ns) (sym is_rule))
 
-granted : (lawful many : Bool) → ◌≡◌ {A = Result (Unit {0}) Refusal} (cond (not lawful) (Err LengthOutOfRange) (cond many (Err QueueFull) (Ok tt))) (Ok tt) → (lawful ≡ true) × (many ≡ false)
-granted true false e = (refl, refl)
-granted true true e = absurd (let z : ◌≡◌ {A = ℕ} 0 1 = cc in omega arith)
-granted false many e = absurd (let z : ◌≡◌ {A = ℕ} 0 1 = cc in omega arith)
-
--- lengths that can be filed can be scheduled into as many places as tickets may wait
-pub fileable-schedulable : (cs : List ℕ) → fileable cs ≡ Ok tt → (schedulable 0 cs most_waiting ≡ true) × (length cs ≤ most_waiting)
-fileable-schedulable cs e =
-    let (lawful, few) = granted (are_lengths cs) (ltb most_waiting (length cs)) e in
-    let within : length cs ≤ most_waiting = ltb-false most_waiting (length cs) few in
-    let room : leb (length cs) most_waiting ≡ true = le-leb (length cs) most_waiting within in
-    (and_from _ _ room (and_from _ _ room lawful), within)
-
--- the first places of what is then written are the schedule
-pub first_places : (x : ServerRow) (cs : List ℕ) (old now : List Slot) (r : Bool) → fileable cs ≡ Ok tt → length old ≡ most_waiting
-    → r ≡ schedulable 0 cs (length old) → now ≡ cond r (written_over (schedule server x 0 cs) old) old → take (length cs) now ≡ schedule server x 0 cs
-first_places x cs old now r lawful places answer listed =
-    let yes : r ≡ true = answer ∙ ap (schedulable 0 cs) places ∙ (fileable-schedulable cs lawful).0 in
-    ap (take (length cs)) (listed ∙ cond-true r _ _ yes) ∙ take_at (schedule server x 0 cs) _ (length cs) (length-schedule server x 0 cs)
+  pub asked_spaced : (x : SpacedRow) → rule ≡ rules.Spaced → row ≡ Spaced x → false ≡ (length (rest 1 ns) == 0) → Ok x ≡ spaced_made (get_or ns 0 0)
+      → Answers answer (on_row mixed (Ok row) (rest 1 ns)) → Answers answer (foretold rule ns)
+  asked_spaced x is_rule is_row some made =
+      subst (Answers answer)
+      (ap (λ y. on_row mixed (Ok y) (rest 1 ns)) is_row ∙ asked spaced_held 1 ns _ x (Err (TooFewNumbers rules.Spaced)) some made ∙ ap (λ r. foretold r ns) (sym is_rule))

@@ -1,92 +1,46 @@
 ghost use Rattle.std.specs.Prelude.{◌≡◌, ◌++◌, IfOk, Ok, OnOk};
-ghost use Rattle.budget.specs.Imports.{fileable, schedule};
-ghost use Rattle.server.specs.Row.{server};
-ghost use Rattle.forecasting.specs.declared.lines.Fault.TheVariants.{Refused, OutOfMemory};
-ghost use Rattle.forecasting.specs.Lines.{step_lines, after_step, steps, imports as import_lines, told, Tells, on_terms, foretold};
+ghost use Rattle.forecasting.specs.Lines.{step_lines, after_step, steps, imports as import_lines, told, Answers, on_row, foretold};
 
-use budget::imports::{Slot, check_lengths, rest_long, schedule};
-use budget::row::BudgetRow;
-use measures::limits::MOST_WAITING;
-use measures::refusal::Refusal;
+use budget::imports::{RowAt, Slot, rest_long, schedule};
+use budget::row::{BudgetRow, LevelRow};
+use forecast_lines::{Fault, Line, Rule};
+use mixed::MixedRow;
 use server::ServerRow;
+use spaced::SpacedRow;
 use std::alloc::{AllocError, Global};
 
-// One line of a forecast. Imports count from 1, and a wait of 0 stands for a row that is able.
-#[derive(Clone, Copy, PartialEq, Eq, Debug)]
-pub enum Line {
-    Terms {
-        rate: u64,
-        ceiling: u64,
-        threshold: u64,
-    },
-    Opening {
-        level: i64,
-        wait: u64,
-    },
-    Begin {
-        tick: u64,
-        import: u64,
-        level: i64,
-    },
-    End {
-        tick: u64,
-        import: u64,
-        held: u64,
-        level: i64,
-        wait: u64,
-    },
-    // all imports are filed at tick 0, so the response time is the end
-    Import {
-        import: u64,
-        start: u64,
-        end: u64,
-        response: u64,
-    },
-}
-
-// Why there is no forecast.
-#[derive(Clone, Copy, PartialEq, Eq, Debug)]
-pub enum Fault {
-    // the numbers are not a rate, a ceiling, a threshold and one length or more
-    TooFewNumbers,
-    Refused(Refusal),
-    OutOfMemory,
-}
-
-// One import in its slot, on a row that has rested up to `tick`: its two lines, and the row as the import leaves it.
-fn step(row: &mut ServerRow, tick: u64, import: u64, slot: Slot) -> [Line; 2]
-    ensures lines { result ≡ step_lines row.old tick import slot }
-    ensures left { row.new ≡ after_step row.old tick slot }
+// One import in its slot, on a row that has rested up to its tick: its two lines, and the row as the import leaves it.
+fn step<R: LevelRow>(at: &mut RowAt<R>, import: u64, slot: Slot) -> [Line; 2]
+    ensures lines { result ≡ step_lines R.meaning at.old.row at.old.tick import slot }
+    ensures row { at.new.row ≡ after_step R.meaning at.old.row at.old.tick slot }
+    ensures tick { at.new.tick ≡ slot.end }
 {
-    rest_long(row, slot.start.saturating_sub(tick));
+    rest_long(&mut at.row, slot.start.saturating_sub(at.tick));
     let begin = Line::Begin {
         tick: slot.start,
         import,
-        level: row.level(),
+        level: at.row.level(),
     };
     let held = slot.end.saturating_sub(slot.start);
-    row.ended(held);
+    at.row.ended(held);
+    at.tick = slot.end;
     let end = Line::End {
         tick: slot.end,
         import,
         held,
-        level: row.level(),
-        wait: row.wake(),
+        level: at.row.level(),
+        wait: at.row.wake(),
     };
     [begin, end]
 }
 
 // The lines of imports in their slots, after those that are there.
-fn push_steps(lines: &mut Vec<Line>, row: &ServerRow, slots: &[Slot]) -> Result<(), AllocError>
-    ensures { OnOk result (lines.new.items ≡ lines.old.items ++ steps row.now 0 1 slots.now) }
+fn push_steps<R: LevelRow>(lines: &mut Vec<Line>, row: &R, slots: &[Slot]) -> Result<(), AllocError>
+    ensures { OnOk result (lines.new.items ≡ lines.old.items ++ steps R.meaning row.now 0 1 slots.now) }
 {
-    let mut next = *row;
-    let mut tick = 0;
-    let mut import = 1;
-    for slot in slots {
-        lines.extend_from_slice(&step(&mut next, tick, import, *slot))?;
-        tick = slot.end;
-        import += 1;
+    let mut at = RowAt { row: *row, tick: 0 };
+    for (i, slot) in slots.iter().enumerate() {
+        lines.extend_from_slice(&step(&mut at, i as u64 + 1, *slot))?;
     }
     Ok(())
 }
@@ -95,24 +49,20 @@ fn push_steps(lines: &mut Vec<Line>, row: &ServerRow, slots: &[Slot]) -> Result<
 fn push_imports(lines: &mut Vec<Line>, slots: &[Slot]) -> Result<(), AllocError>
     ensures { OnOk result (lines.new.items ≡ lines.old.items ++ import_lines 1 slots.now) }
 {
-    let mut import = 1;
-    for slot in slots {
-        let start = slot.start;
-        let end = slot.end;
-        let response = end;
+    for (i, slot) in slots.iter().enumerate() {
         lines.push(Line::Import {
-            import,
-            start,
-            end,
-            response,
+            import: i as u64 + 1,
+            start: slot.start,
+            end: slot.end,
+            response: slot.end,
         })?;
-        import += 1;
     }
     Ok(())
 }
 
-fn tell(heap: Global, row: &ServerRow, slots: &[Slot]) -> Result<Vec<Line>, AllocError>
-    ensures { IfOk result (λ v. v.items ≡ told row.now slots.now) }
+#[tactic(auto, unfolding(crate::specs::Lines::told))]
+fn tell<R: LevelRow>(heap: Global, row: &R, slots: &[Slot]) -> Result<Vec<Line>, AllocError>
+    ensures { IfOk result (λ v. v.items ≡ told R.meaning row.now slots.now) }
 {
     let terms = Line::Terms {
         rate: row.rate(),
@@ -123,55 +73,34 @@ fn tell(heap: Global, row: &ServerRow, slots: &[Slot]) -> Result<Vec<Line>, Allo
         level: row.level(),
         wait: row.wake(),
     };
-    let mut lines = Vec::from_slice(heap, &[terms, opening])?;
+    let mut lines = vec![in heap; terms, opening]?;
     push_steps(&mut lines, row, slots)?;
     push_imports(&mut lines, slots)?;
     Ok(lines)
 }
 
-// All that happens to lawful imports that are filed on a row at tick 0.
-fn tell_imports(heap: Global, row: &ServerRow, lengths: &[u64]) -> Result<Vec<Line>, AllocError>
-    requires { fileable lengths.now ≡ Ok tt }
-    ensures { IfOk result (λ v. v.items ≡ told row.now (schedule server row.now 0 lengths.now)) }
+// All that happens to imports of these lengths, filed on a row at tick 0.
+pub fn forecast_row<R: LevelRow>(heap: Global, row: &R, lengths: &[u64]) -> Result<Vec<Line>, Fault>
+    ensures { Answers result (on_row R.meaning (Ok row.now) lengths.now) }
 {
-    let mut slots = [Slot { start: 0, end: 0 }; MOST_WAITING as usize];
-    schedule(row, 0, lengths, &mut slots);
-    tell(heap, row, &slots[0..lengths.len()])
+    let mut slots = vec![in heap; Slot { start: 0, end: 0 }; lengths.len()]?;
+    schedule(row, 0, lengths, slots.as_mut_slice())?;
+    Ok(tell(heap, row, slots.as_slice())?)
 }
 
-// All that happens to imports of these lengths, on a new row with these terms.
-fn tell_lab(heap: Global, terms: (u64, u64, u64), lengths: &[u64]) -> Result<Vec<Line>, Fault>
-    ensures { Tells result (on_terms terms.0 terms.1 terms.2 lengths.now) }
+// The forecast for the terms of a row of this rule, and the lengths of imports in order.
+pub fn forecast(heap: Global, rule: Rule, numbers: &[u64]) -> Result<Vec<Line>, Fault>
+    ensures { Answers result (foretold rule numbers.now) }
 {
-    let (rate, ceiling, threshold) = terms;
-    let row = ServerRow::new(rate, ceiling, threshold)?;
-    check_lengths(lengths)?;
-    Ok(tell_imports(heap, &row, lengths)?)
-}
-
-// The forecast for a rate, a ceiling, a threshold and the lengths of imports in order.
-pub fn forecast(heap: Global, numbers: &[u64]) -> Result<Vec<Line>, Fault>
-    ensures { Tells result (foretold numbers.now) }
-{
-    if numbers.len() < 4 {
-        return Err(Fault::TooFewNumbers);
-    }
-    let (terms, lengths) = numbers.split_at(3);
-    tell_lab(heap, (terms[0], terms[1], terms[2]), lengths)
-}
-
-impl From<Refusal> for Fault {
-    ghost from_gives = { λ r f. f ≡ Refused r };
-
-    fn from(refusal: Refusal) -> Fault {
-        Fault::Refused(refusal)
-    }
-}
-
-impl From<AllocError> for Fault {
-    ghost from_gives = { λ _ f. f ≡ OutOfMemory };
-
-    fn from(_error: AllocError) -> Fault {
-        Fault::OutOfMemory
+    match (rule, numbers) {
+        (Rule::Server, [rate, ceiling, threshold, lengths @ ..]) if !lengths.is_empty() => {
+            let row = ServerRow::new(*rate, *ceiling, *threshold)?;
+            forecast_row(heap, &MixedRow::from(row), lengths)
+        }
+        (Rule::Spaced, [rate, lengths @ ..]) if !lengths.is_empty() => {
+            let row = SpacedRow::new(*rate)?;
+            forecast_row(heap, &MixedRow::from(row), lengths)
+        }
+        _ => Err(Fault::TooFewNumbers(rule)),
     }
 }

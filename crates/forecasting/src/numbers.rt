@@ -22,7 +22,7 @@ fn read_digits(bytes: &[u8]) -> Option<u64>
         }
         value = value
             .saturating_mul(10)
-            .saturating_add((*byte - b'0') as u64);
+            .saturating_add(u64::from(*byte - b'0'));
     }
     Some(value)
 }

@@ -1,1 +1,2 @@
+pub mod Checks
 pub mod Quotients

@@ -1,5 +1,5 @@
 -- The refusals, their numbers, and checks in order.
-use Rattle.std.specs.Prelude.{ℕ, Bool, cond, List, [], ◌∷◌, Ok, Err, Result}
+use Rattle.std.specs.Prelude.{ℕ, Bool, List, [], ◌∷◌, Ok, Err, Result, if◌then◌else◌}
 use Rattle.measures.specs.declared.refusal.Refusal.{Refusal}
 use Rattle.measures.specs.declared.refusal.Refusal.TheVariants.{RateOutOfRange, CeilingOutOfRange, ThresholdAboveCeiling, LabCountOutOfRange, RateSumTooLarge, TableMismatch, TickOutOfRange, NoSuchLab, LengthOutOfRange, DueOutOfRange, QueueFull, TicketsExhausted, NoSuchTicket, LockHeld, LockFree, ListTooShort}
 
@@ -24,4 +24,4 @@ number_of ListTooShort = 16
 -- Checks in order, each a test with its refusal: the first test that is true answers, and if none is, the call is granted.
 abbrev pub granted_unless : {A : Type 0} → List (Bool × Refusal) → A → Result A Refusal
 granted_unless [] a = Ok a
-granted_unless ((test, refusal) ∷ checks) a = cond test (Err refusal) (granted_unless checks a)
+granted_unless ((test, refusal) ∷ checks) a = if test then Err refusal else granted_unless checks a

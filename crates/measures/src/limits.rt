@@ -1,5 +1,5 @@
 ghost use Rattle.std.specs.Prelude.{◌≡◌};
-ghost use Rattle.measures.specs.Limits.{is_tick, is_rate, nearest_rate, is_ceiling, is_length, is_lab_count, is_rate_sum, is_full, is_all_given};
+ghost use Rattle.measures.specs.Limits.{is_tick, is_rate, is_ceiling, is_length, is_lab_count, is_rate_sum, is_full, is_all_given};
 
 // Levels, ceilings and thresholds are in thousandths of a tick, and rates in thousandths per tick.
 pub const THOUSANDTHS: u64 = 1000;
@@ -22,6 +22,9 @@ pub const GREATEST_RATE_SUM: u64 = 900;
 
 pub const MOST_TICKETS: u64 = 1_000_000_000_000;
 
+// One function for each limit, and not one over two bounds: a caller names the rule, and a wrong limit is refused here, since a constant has
+// no contract.
+
 pub fn is_tick(tick: u64) -> bool
     ensures { result ≡ is_tick tick }
 {
@@ -31,14 +34,7 @@ pub fn is_tick(tick: u64) -> bool
 pub fn is_rate(rate: u64) -> bool
     ensures { result ≡ is_rate rate }
 {
-    LEAST_RATE <= rate && rate <= GREATEST_RATE
-}
-
-// The lawful rate that is nearest to a stored one.
-pub fn nearest_rate(rate: u64) -> u64
-    ensures { result ≡ nearest_rate rate }
-{
-    rate.clamp(LEAST_RATE, GREATEST_RATE)
+    (LEAST_RATE..=GREATEST_RATE).contains(&rate)
 }
 
 pub fn is_ceiling(ceiling: u64) -> bool
@@ -50,13 +46,13 @@ pub fn is_ceiling(ceiling: u64) -> bool
 pub fn is_length(length: u64) -> bool
     ensures { result ≡ is_length length }
 {
-    1 <= length && length <= GREATEST_LENGTH
+    (1..=GREATEST_LENGTH).contains(&length)
 }
 
 pub fn is_lab_count(labs: u64) -> bool
     ensures { result ≡ is_lab_count labs }
 {
-    1 <= labs && labs <= MOST_LABS
+    (1..=MOST_LABS).contains(&labs)
 }
 
 pub fn is_rate_sum(sum: u64) -> bool

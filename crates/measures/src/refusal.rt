@@ -1,7 +1,10 @@
 ghost use Rattle.std.specs.Prelude.{◌≡◌};
 ghost use Rattle.measures.specs.Refusals.{number_of};
 
-// Why a call was denied. A denied call changes nothing. `{:?}` writes the name, and `number` answers the number that callers are told.
+use std::error::Error;
+use std::fmt;
+
+// Why a call was denied. A denied call changes nothing. `{}` writes the number that callers are told, and the name.
 #[derive(Clone, Copy, PartialEq, Eq, Debug)]
 pub enum Refusal {
     RateOutOfRange = 1,
@@ -35,3 +38,11 @@ impl Refusal {
         self as u64
     }
 }
+
+impl fmt::Display for Refusal {
+    fn fmt<W: fmt::Write>(&self, f: &mut fmt::Formatter<W>) -> fmt::Result {
+        write!(f, "refusal {}: {self:?}", self.number())
+    }
+}
+
+impl Error for Refusal {}

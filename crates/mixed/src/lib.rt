@@ -4,44 +4,33 @@
 ghost use Rattle.std.specs.Prelude.{◌≡◌};
 ghost use Rattle.mixed.specs.Row.{mixed};
 ghost use Rattle.mixed.specs.Keeps.{keeps};
+ghost use Rattle.mixed.specs.declared.MixedRow.TheVariants.{Server, Spaced};
 
-use budget::row::BudgetRow;
+use budget::row::{BudgetRow, LevelRow};
 use server::ServerRow;
 use spaced::SpacedRow;
 
-// A row of the rule that a lab's licence names; it behaves as the row it holds.
+// A row of the rule that a lab's licence names; it behaves as the row it holds. It is an enum and no `dyn`, since a host keeps rows in a
+// table and copies them.
 #[derive(Clone, Copy, PartialEq, Eq, Debug)]
 pub enum MixedRow {
     Server(ServerRow),
     Spaced(SpacedRow),
 }
 
-impl MixedRow {
-    pub fn level(&self) -> i64
-        ensures { result ≡ mixed.level self.now }
-    {
-        match self {
-            MixedRow::Server(row) => row.level(),
-            MixedRow::Spaced(row) => row.level(),
-        }
-    }
+impl From<ServerRow> for MixedRow {
+    ghost from_gives = { λ held row. row ≡ Server held };
 
-    pub fn ceiling(&self) -> u64
-        ensures { result ≡ mixed.ceiling self.now }
-    {
-        match self {
-            MixedRow::Server(row) => row.ceiling(),
-            MixedRow::Spaced(row) => row.ceiling(),
-        }
+    fn from(held: ServerRow) -> MixedRow {
+        MixedRow::Server(held)
     }
+}
 
-    pub fn threshold(&self) -> u64
-        ensures { result ≡ mixed.threshold self.now }
-    {
-        match self {
-            MixedRow::Server(row) => row.threshold(),
-            MixedRow::Spaced(row) => row.threshold(),
-        }
+impl From<SpacedRow> for MixedRow {
+    ghost from_gives = { λ held row. row ≡ Spaced held };
+
+    fn from(held: SpacedRow) -> MixedRow {
+        MixedRow::Spaced(held)
     }
 }
 
@@ -89,6 +78,29 @@ impl BudgetRow for MixedRow {
         match self {
             MixedRow::Server(row) => row.rate(),
             MixedRow::Spaced(row) => row.rate(),
+        }
+    }
+}
+
+impl LevelRow for MixedRow {
+    fn level(&self) -> i64 {
+        match self {
+            MixedRow::Server(row) => row.level(),
+            MixedRow::Spaced(row) => row.level(),
+        }
+    }
+
+    fn ceiling(&self) -> u64 {
+        match self {
+            MixedRow::Server(row) => row.ceiling(),
+            MixedRow::Spaced(row) => row.ceiling(),
+        }
+    }
+
+    fn threshold(&self) -> u64 {
+        match self {
+            MixedRow::Server(row) => row.threshold(),
+            MixedRow::Spaced(row) => row.threshold(),
         }
     }
 }

@@ -1,28 +1,32 @@
 -- What the words of a command line ask for.
-use Rattle.std.specs.Prelude.{ℕ, ◌+◌, Bool, false, cond, List, [], ◌∷◌, drop, Ok, string_bytes, codes, Result, String}
+use Rattle.std.specs.Prelude.{ℕ, ◌+◌, List, [], ◌∷◌, Ok, string_bytes, codes, Result, String, if◌then◌else◌}
 use Rattle.std.specs.Option.{ok_or}
 use Rattle.std.specs.Str.{bytes_eq}
 use Rattle.std.specs.declared.alloc.Global.{Global}
-use Rattle.mixed_forecasting.specs.Lines.{◌>>=◌, foretold_server, foretold_spaced}
+use Rattle.forecasting.specs.Lines as numbers
+use Rattle.forecasting.specs.Lines.{◌>>=◌}
 use Rattle.forecasting.specs.Numbers.{number_of}
 use Rattle.forecast_lines.specs.declared.Line.{Line}
+use Rattle.forecast_lines.specs.declared.Rule.{Rule}
+use Rattle.forecast_lines.specs.declared.Rule.TheVariants.{Server, Spaced}
 use Rattle.forecast_lines.specs.declared.Fault.{Fault}
 use Rattle.forecast_lines.specs.declared.Fault.TheVariants.{NotANumber}
-
--- the first word is `spaced`
-abbrev pub asks_spaced : List (String Global) → Bool
-asks_spaced [] = false
-asks_spaced (w ∷ ws) = bytes_eq (string_bytes w) (codes "spaced")
 
 -- the numbers that these words write, or the first of them that writes none, told by its place; the first of them has place k
 abbrev pub numbers_at : ℕ → List (String Global) → Result (List ℕ) Fault
 numbers_at k [] = Ok []
 numbers_at k (w ∷ ws) = ok_or (number_of (string_bytes w)) (NotANumber k) >>= λ n. numbers_at (k + 1) ws >>= λ ns. Ok (n ∷ ns)
 
--- the numbers that the words after the first few write
-abbrev pub numbers_from : ℕ → List (String Global) → Result (List ℕ) Fault
-numbers_from skipped ws = numbers_at (skipped + 1) (drop skipped ws)
+-- the place of the first word that is to be a number; the name of the rule comes before it, but the server rule goes without saying
+abbrev pub first_place : Rule → ℕ
+first_place Server = 1
+first_place Spaced = 2
+
+-- the forecast on a row of this rule that these words ask for by their numbers
+abbrev pub foretold_on : Rule → List (String Global) → Result (List Line) Fault
+foretold_on rule ws = numbers_at (first_place rule) ws >>= numbers.foretold rule
 
 -- the forecast on a spaced row if the first word is `spaced`, and else on a server row
 abbrev pub foretold : List (String Global) → Result (List Line) Fault
-foretold ws = cond (asks_spaced ws) (numbers_from 1 ws >>= foretold_spaced) (numbers_from 0 ws >>= foretold_server)
+foretold [] = foretold_on Server []
+foretold (w ∷ ws) = if bytes_eq (string_bytes w) (codes "spaced") then foretold_on Spaced ws else foretold_on Server (w ∷ ws)

@@ -1,5 +1,4 @@
-// Forecasts on a row of either rule: the lines that numbers ask for, and those that the words of a command line ask for.
+// The forecast that the words of a command line ask for, on a row of either rule.
 #![tactic(auto)]
 
-pub mod lines;
 pub mod words;

@@ -1,9 +1,9 @@
-ghost use Rattle.std.specs.Prelude.{◌≡◌};
-ghost use Rattle.mixed_forecasting.specs.Lines.{Answers};
-ghost use Rattle.mixed_forecasting.specs.Words.{asks_spaced, numbers_from, foretold};
+ghost use Rattle.std.specs.Prelude.{◌≡◌, ◌≤◌};
+ghost use Rattle.forecasting.specs.Lines.{Answers};
+ghost use Rattle.mixed_forecasting.specs.Words.{first_place, numbers_at, foretold_on, foretold};
 
-use crate::lines::{forecast_server, forecast_spaced};
-use forecast_lines::{Fault, Line};
+use forecast_lines::{Fault, Line, Rule};
+use forecasting::lines;
 use forecasting::numbers::number;
 use std::alloc::Global;
 
@@ -11,32 +11,40 @@ use std::alloc::Global;
 pub fn forecast(heap: Global, words: &[String]) -> Result<Vec<Line>, Fault>
     ensures { Answers result (foretold words.now) }
 {
-    if asks_spaced(words) {
-        let numbers = read_numbers(heap, words, 1)?;
-        forecast_spaced(heap, numbers.as_slice())
-    } else {
-        let numbers = read_numbers(heap, words, 0)?;
-        forecast_server(heap, numbers.as_slice())
+    match words.split_first() {
+        Some((name, numbers)) if name.as_str() == "spaced" => {
+            forecast_on(heap, Rule::Spaced, numbers)
+        }
+        _ => forecast_on(heap, Rule::Server, words),
     }
 }
 
-// Whether the first word names the rule of a spaced row.
-fn asks_spaced(words: &[String]) -> bool
-    ensures { result ≡ asks_spaced words.now }
+// The forecast on a row of this rule, from the words that are its numbers.
+fn forecast_on(heap: Global, rule: Rule, words: &[String]) -> Result<Vec<Line>, Fault>
+    ensures { Answers result (foretold_on rule words.now) }
 {
-    !words.is_empty() && words[0].as_str() == "spaced"
+    let numbers = read_numbers(heap, rule, words)?;
+    lines::forecast(heap, rule, numbers.as_slice())
 }
 
-// The numbers that the words after the first few write.
-fn read_numbers(heap: Global, words: &[String], skipped: usize) -> Result<Vec<u64>, Fault>
-    ensures { Answers result (numbers_from skipped words.now) }
+fn read_numbers(heap: Global, rule: Rule, words: &[String]) -> Result<Vec<u64>, Fault>
+    ensures { Answers result (numbers_at (first_place rule) words.now) }
 {
+    let first = first_place(rule);
     let mut numbers = Vec::new(heap);
-    for i in skipped..words.len() {
-        let Some(n) = number(words[i].as_str()) else {
-            return Err(Fault::NotANumber(i + 1));
-        };
-        numbers.push(n)?;
+    for (i, word) in words.iter().enumerate() {
+        numbers.push(number(word.as_str()).ok_or(Fault::NotANumber(first + i))?)?;
     }
     Ok(numbers)
+}
+
+// The place of the first word that is to be a number, counted from 1.
+fn first_place(rule: Rule) -> usize
+    ensures value { result ≡ first_place rule }
+    ensures bound { result ≤ 2 }
+{
+    match rule {
+        Rule::Server => 1,
+        Rule::Spaced => 2,
+    }
 }

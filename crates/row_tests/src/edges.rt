@@ -1,92 +1,71 @@
-use budget::row::BudgetRow;
+use crate::lawful::check_row;
+use budget::row::{BudgetRow, LevelRow};
 use measures::division::div_up;
 use measures::limits::LAST_TICK;
+use measures::refusal::Refusal;
 use server::ServerRow;
+use spaced::SpacedRow;
 use std::process::Abort;
 
-// The number of the refusal, or 0 for a row.
-fn refused_with(rate: u64, ceiling: u64, threshold: u64) -> u64 {
-    match ServerRow::new(rate, ceiling, threshold) {
-        Ok(_) => 0,
-        Err(refusal) => refusal.number(),
-    }
+// The number of the refusal, if it is one.
+fn refused_with<R: Copy>(made: Result<R, Refusal>) -> Option<u64> {
+    made.err().map(|refusal| refusal.number())
 }
 
 #[test]
 fn terms_out_of_range(rt: HostRuntime) {
     let cases = [
-        (1, 0, 0, 0),
-        (999, 1_000_000_000, 1_000_000_000, 0),
-        (0, 0, 0, 1),
-        (1000, 0, 0, 1),
-        (u64::MAX, u64::MAX, u64::MAX, 1),
-        (0, 1_000_000_001, 1_000_000_002, 1),
-        (1, 1_000_000_001, 1_000_000_002, 2),
-        (1, u64::MAX, 0, 2),
-        (1, 1_000_000_000, 1_000_000_001, 3),
-        (1, 0, 1, 3),
-        (999, 5, u64::MAX, 3),
+        (1, 0, 0, None),
+        (999, 1_000_000_000, 1_000_000_000, None),
+        (0, 0, 0, Some(1)),
+        (1000, 0, 0, Some(1)),
+        (u64::MAX, u64::MAX, u64::MAX, Some(1)),
+        (0, 1_000_000_001, 1_000_000_002, Some(1)),
+        (1, 1_000_000_001, 1_000_000_002, Some(2)),
+        (1, u64::MAX, 0, Some(2)),
+        (1, 1_000_000_000, 1_000_000_001, Some(3)),
+        (1, 0, 1, Some(3)),
+        (999, 5, u64::MAX, Some(3)),
     ];
     for (rate, ceiling, threshold, number) in cases {
-        assert_eq!(rt; refused_with(rate, ceiling, threshold), number);
-    }
-}
-
-// Whatever is stored, the row reads as a lawful one.
-fn check_lawful(rt: &impl Abort, row: &ServerRow) {
-    assert!(rt; 1 <= row.rate() && row.rate() <= 999);
-    assert!(rt; row.ceiling() <= 1_000_000_000);
-    assert!(rt; row.threshold() <= row.ceiling());
-    assert!(rt; row.level() <= row.ceiling() as i64);
-    assert!(rt; !row.able() || 0 <= row.level());
-    assert_eq!(rt; row.able(), row.wake() == 0);
-}
-
-// A count that no row takes is refused, and changes nothing.
-fn check_refused(rt: &impl Abort, row: &ServerRow) {
-    let mut after = *row;
-    assert!(rt; !after.rest(LAST_TICK + 1));
-    assert!(rt; !after.rest(u64::MAX));
-    assert!(rt; !after.ended(LAST_TICK + 1));
-    assert!(rt; !after.ended(u64::MAX));
-    if !row.able() {
-        assert!(rt; !after.ended(0));
-    }
-    assert_eq!(rt; after, *row);
-}
-
-// Each act that a row grants, up to the last tick, leaves a lawful one.
-fn check_granted(rt: &impl Abort, row: &ServerRow) {
-    for ticks in [0, 1, LAST_TICK] {
-        let mut after = *row;
-        assert!(rt; after.rest(ticks));
-        check_lawful(rt, &after);
-        assert_eq!(rt; after.ended(ticks), row.wake() <= ticks);
-        check_lawful(rt, &after);
-    }
-    let mut fresh = *row;
-    fresh.restart();
-    assert_eq!(rt; fresh.level(), 0);
-    assert_eq!(rt; fresh.able(), fresh.threshold() == 0);
-}
-
-fn check_level(rt: &impl Abort, rate: u64, ceiling: u64, threshold: u64, level: i64) {
-    for able in [false, true] {
-        let row = ServerRow {
-            rate,
-            ceiling,
-            threshold,
-            level,
-            able,
-        };
-        check_lawful(rt, &row);
-        check_refused(rt, &row);
-        check_granted(rt, &row);
+        assert_eq!(rt;
+            refused_with(ServerRow::new(rate, ceiling, threshold)),
+            number
+        );
     }
 }
 
 #[test]
-fn nonsense_is_read_as_lawful(rt: HostRuntime) {
+fn rates_out_of_range(rt: HostRuntime) {
+    let cases = [
+        (0, Some(1)),
+        (1, None),
+        (999, None),
+        (1000, Some(1)),
+        (u64::MAX, Some(1)),
+    ];
+    for (rate, number) in cases {
+        assert_eq!(rt; refused_with(SpacedRow::new(rate)), number);
+    }
+}
+
+fn check_level(rt: &impl Abort, rate: u64, ceiling: u64, threshold: u64, level: i64) {
+    for able in [false, true] {
+        check_row(
+            rt,
+            ServerRow {
+                rate,
+                ceiling,
+                threshold,
+                level,
+                able,
+            },
+        );
+    }
+}
+
+#[test]
+fn nonsense_in_a_server_row_is_read_as_lawful(rt: HostRuntime) {
     for rate in [0, 1, 500, 999, 1000, u64::MAX] {
         for ceiling in [0, 3000, 1_000_000_001, u64::MAX] {
             for threshold in [0, 1000, u64::MAX] {
@@ -94,6 +73,22 @@ fn nonsense_is_read_as_lawful(rt: HostRuntime) {
                     check_level(&rt, rate, ceiling, threshold, level);
                 }
             }
+        }
+    }
+}
+
+#[test]
+fn nonsense_in_a_spaced_row_is_read_as_lawful(rt: HostRuntime) {
+    for rate in [0, 1, 500, 999, 1000, u64::MAX] {
+        for left in [
+            0,
+            1,
+            LAST_TICK,
+            999_000_000_000_000,
+            999_000_000_000_001,
+            u64::MAX,
+        ] {
+            check_row(&rt, SpacedRow { rate, left });
         }
     }
 }
@@ -123,6 +118,27 @@ fn the_nearest_lawful_number(rt: HostRuntime) {
     assert_eq!(rt; high.threshold(), 7);
     assert_eq!(rt; high.level(), 7);
     assert_eq!(rt; high.wake(), 0);
+}
+
+// No more ticks are left than after a run of the last tick's length.
+#[test]
+fn the_nearest_lawful_ticks_left(rt: HostRuntime) {
+    let cases = [
+        (0, 1, 999_000_000_000_000, -999_000_000_000_000),
+        (1, 1, 999_000_000_000_000, -999_000_000_000_000),
+        (300, 300, 2_333_333_333_334, -700_000_000_000_200),
+        (999, 999, 1_001_001_002, -1_000_000_000_998),
+        (u64::MAX, 999, 1_001_001_002, -1_000_000_000_998),
+    ];
+    for (stored, rate, wake, level) in cases {
+        let row = SpacedRow {
+            rate: stored,
+            left: u64::MAX,
+        };
+        assert_eq!(rt; row.rate(), rate);
+        assert_eq!(rt; row.wake(), wake);
+        assert_eq!(rt; row.level(), level);
+    }
 }
 
 #[test]

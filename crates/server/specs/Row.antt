@@ -1,8 +1,8 @@
 -- What a server row means. Between runs it is able or not able: a run may only begin on an able row, a row in debt becomes able
 -- again at its threshold, and an able row stays able.
-use Rattle.std.specs.Prelude.{ℕ, ◌-◌, ◌*◌, min, max, Bool, false, cond, not, ◌&&◌, ◌||◌, [], ◌∷◌, ℤ, pos, ◌+ℤ◌, ◌-ℤ◌, neg_ℤ, Result, ◌==◌, int_le, nat_lt, unsigned_abs}
+use Rattle.std.specs.Prelude.{ℕ, ◌-◌, ◌*◌, min, Bool, false, not, ◌&&◌, ◌||◌, [], ◌∷◌, ℤ, pos, ◌+ℤ◌, ◌-ℤ◌, neg_ℤ, Result, ◌==◌, if◌then◌else◌, int_le, nat_lt, unsigned_abs}
 use Rattle.std.specs.Int.{int_max, int_min}
-use Rattle.measures.specs.Limits.{last, least_rate, greatest_rate, greatest_ceiling, is_rate, is_ceiling}
+use Rattle.measures.specs.Limits.{last, greatest_ceiling, is_rate, nearest_rate, is_ceiling}
 use Rattle.measures.specs.Division.{up_div}
 use Rattle.measures.specs.Refusals.{granted_unless}
 use Rattle.measures.specs.declared.refusal.Refusal.{Refusal}
@@ -13,7 +13,7 @@ use Rattle.server.specs.declared.ServerRow.{ServerRow}
 -- A stored number out of its range is read as the nearest lawful one.
 
 abbrev pub rate_of : ServerRow → ℕ
-rate_of x = max least_rate (min greatest_rate x.rate)
+rate_of x = nearest_rate x.rate
 
 abbrev pub ceiling_of : ServerRow → ℕ
 ceiling_of x = min greatest_ceiling x.ceiling
@@ -43,7 +43,7 @@ missing x = unsigned_abs (pos (threshold_of x) -ℤ level_of x)
 
 -- the ticks in which the rate makes up for what is missing, rounded up; none on an able row
 abbrev pub wake_of : ServerRow → ℕ
-wake_of x = cond (able_of x) 0 (up_div (missing x) (rate_of x))
+wake_of x = if able_of x then 0 else up_div (missing x) (rate_of x)
 
 -- the same terms with another level and mark
 abbrev pub with_level : ServerRow → ℤ → Bool → ServerRow

@@ -6,13 +6,11 @@ ghost use Rattle.measures.specs.Limits.{last, greatest_ceiling};
 ghost use Rattle.server.specs.Row.{server, made, level_of, ceiling_of, threshold_of, rate_of, deepest, debt, raised, charged, missing};
 ghost use Rattle.server.specs.Keeps.{keeps};
 
-use budget::row::BudgetRow;
-use measures::division::div_up;
-use measures::limits::{
-    GREATEST_CEILING, GREATEST_RATE, LAST_TICK, LEAST_RATE, THOUSANDTHS, is_ceiling, is_rate,
-    is_tick,
-};
+use budget::row::{BudgetRow, LevelRow};
+use measures::limits::{GREATEST_CEILING, is_ceiling, is_rate, is_tick};
+use measures::rate::Rate;
 use measures::refusal::Refusal;
+use measures::ticks::Ticks;
 
 // A host may store anything here: a number out of its range is read as the nearest lawful one.
 #[derive(Clone, Copy, PartialEq, Eq, Debug)]
@@ -24,6 +22,7 @@ pub struct ServerRow {
     pub threshold: u64,
     // below 0 in debt
     pub level: i64,
+    // a mark and no state of its own, since a host may store any mark beside any level
     pub able: bool,
 }
 
@@ -51,42 +50,26 @@ impl ServerRow {
         Ok(row)
     }
 
-    pub fn level(&self) -> i64
-        ensures value { result ≡ level_of self.now }
-        ensures low_bound { neg_ℤ (pos deepest) ≤ℤ result }
-        ensures high_bound { result ≤ℤ pos greatest_ceiling }
+    // The rate, as it is read.
+    fn lawful_rate(&self) -> Rate
+        ensures { result.per_tick ≡ rate_of self.now }
     {
-        self.level
-            .clamp(self.debt(LAST_TICK), self.ceiling() as i64)
-    }
-
-    pub fn ceiling(&self) -> u64
-        ensures { result ≡ ceiling_of self.now }
-    {
-        self.ceiling.min(GREATEST_CEILING)
-    }
-
-    pub fn threshold(&self) -> u64
-        ensures { result ≡ threshold_of self.now }
-    {
-        self.threshold.min(self.ceiling())
+        Rate::nearest(self.rate)
     }
 
     // The level that so many ticks of rest raise it to.
-    fn raised(&self, ticks: u64) -> i64
-        requires { ticks ≤ last }
-        ensures { result ≡ raised self.now ticks }
+    fn raised(&self, ticks: Ticks) -> i64
+        ensures { result ≡ raised self.now ticks.count }
     {
-        let risen = self.level() + thousandths(self.rate(), ticks);
+        let risen = self.level() + self.lawful_rate().gain(ticks) as i64;
         risen.min(self.ceiling() as i64)
     }
 
     // The level that a run of so many ticks leaves.
-    fn charged(&self, ticks: u64) -> i64
-        requires { ticks ≤ last }
-        ensures { result ≡ charged self.now ticks }
+    fn charged(&self, ticks: Ticks) -> i64
+        ensures { result ≡ charged self.now ticks.count }
     {
-        self.level() + self.debt(ticks)
+        self.level() - self.lawful_rate().charge(ticks) as i64
     }
 
     // How far the level is from the threshold.
@@ -95,26 +78,6 @@ impl ServerRow {
     {
         (self.threshold() as i64 - self.level()).unsigned_abs()
     }
-
-    // The level to which a run of so many ticks takes a row that has nothing.
-    fn debt(&self, ticks: u64) -> i64
-        requires { ticks ≤ last }
-        ensures value { result ≡ debt (rate_of self.now) ticks }
-        ensures low_bound { neg_ℤ (pos deepest) ≤ℤ result }
-        ensures high_bound { result ≤ℤ pos 0 }
-    {
-        -thousandths(THOUSANDTHS - self.rate(), ticks)
-    }
-}
-
-// So many thousandths per tick, over so many ticks.
-fn thousandths(rate: u64, ticks: u64) -> i64
-    requires rate { rate ≤ 1000 }
-    requires ticks { ticks ≤ last }
-    ensures value { result ≡ pos (rate * ticks) }
-    ensures bound { result ≤ℤ pos deepest }
-{
-    (rate * ticks) as i64
 }
 
 impl BudgetRow for ServerRow {
@@ -128,9 +91,9 @@ impl BudgetRow for ServerRow {
     }
 
     fn rest(&mut self, ticks: u64) -> bool {
-        if !is_tick(ticks) {
+        let Some(ticks) = Ticks::new(ticks) else {
             return false;
-        }
+        };
         let level = self.raised(ticks);
         self.able = self.able() || self.threshold() as i64 <= level;
         self.level = level;
@@ -138,13 +101,15 @@ impl BudgetRow for ServerRow {
     }
 
     fn ended(&mut self, ticks: u64) -> bool {
-        if !is_tick(ticks) || !self.able() {
-            return false;
+        match Ticks::new(ticks) {
+            Some(ticks) if self.able() => {
+                let level = self.charged(ticks);
+                self.able = 0 <= level;
+                self.level = level;
+                true
+            }
+            _ => false,
         }
-        let level = self.charged(ticks);
-        self.able = 0 <= level;
-        self.level = level;
-        true
     }
 
     fn able(&self) -> bool {
@@ -156,10 +121,29 @@ impl BudgetRow for ServerRow {
         if self.able() {
             return 0;
         }
-        div_up(self.missing(), self.rate()).unwrap()
+        self.lawful_rate().ticks_for(self.missing())
     }
 
     fn rate(&self) -> u64 {
-        self.rate.min(GREATEST_RATE).max(LEAST_RATE)
+        self.lawful_rate().per_tick
+    }
+}
+
+impl LevelRow for ServerRow {
+    fn level(&self) -> i64
+        ensures value { result ≡ level_of self.now }
+        ensures low_bound { neg_ℤ (pos deepest) ≤ℤ result }
+        ensures high_bound { result ≤ℤ pos greatest_ceiling }
+    {
+        let low = -(self.lawful_rate().charge(Ticks::LAST) as i64);
+        self.level.clamp(low, self.ceiling() as i64)
+    }
+
+    fn ceiling(&self) -> u64 {
+        self.ceiling.min(GREATEST_CEILING)
+    }
+
+    fn threshold(&self) -> u64 {
+        self.threshold.min(self.ceiling())
     }
 }

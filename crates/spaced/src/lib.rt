@@ -7,10 +7,11 @@ ghost use Rattle.measures.specs.Division.{up_div};
 ghost use Rattle.spaced.specs.Row.{spaced, made, pause, ShortestPause, rate_of, left_of, level_of};
 ghost use Rattle.spaced.specs.Keeps.{keeps};
 
-use budget::row::BudgetRow;
-use measures::division::div_up;
-use measures::limits::{LAST_TICK, THOUSANDTHS, is_rate, is_tick, nearest_rate};
+use budget::row::{BudgetRow, LevelRow};
+use measures::limits::is_rate;
+use measures::rate::Rate;
 use measures::refusal::Refusal;
+use measures::ticks::Ticks;
 
 // A host may store anything here: a number out of its range is read as the nearest lawful one.
 #[derive(Clone, Copy, PartialEq, Eq, Debug)]
@@ -33,50 +34,29 @@ impl SpacedRow {
         Ok(row)
     }
 
-    pub fn level(&self) -> i64
-        ensures { result ≡ level_of self.now }
-    {
-        -((self.rate() * self.left()) as i64)
-    }
-
-    pub fn ceiling(&self) -> u64
-        ensures { result ≡ spaced.ceiling self.now }
-    {
-        0
-    }
-
-    pub fn threshold(&self) -> u64
-        ensures { result ≡ spaced.threshold self.now }
-    {
-        self.ceiling()
-    }
-
     // The ticks left of the pause, as they are read.
+    #[tactic(auto, using(crate::specs::Keeps::debt_high))]
     fn left(&self) -> u64
         ensures value { result ≡ left_of self.now }
         ensures bound { rate_of self.now * result ≤ 1000 * last }
     {
-        self.left.min(pause(self.rate(), LAST_TICK))
+        self.left.min(pause(self.lawful_rate(), Ticks::LAST))
+    }
+
+    // The rate, as it is read.
+    fn lawful_rate(&self) -> Rate
+        ensures { result.per_tick ≡ rate_of self.now }
+    {
+        Rate::nearest(self.rate)
     }
 }
 
 // The pause after a run of so many ticks.
-fn pause(rate: u64, ticks: u64) -> u64
-    requires low { 0 < rate }
-    requires high { rate < 1000 }
-    requires ticks { ticks ≤ last }
-    ensures value { result ≡ pause rate ticks }
-    ensures shortest { ShortestPause rate ticks result }
+fn pause(rate: Rate, ticks: Ticks) -> u64
+    ensures value { result ≡ pause rate.per_tick ticks.count }
+    ensures shortest { ShortestPause rate.per_tick ticks.count result }
 {
-    ticks_to_make_up((THOUSANDTHS - rate) * ticks, rate)
-}
-
-// The ticks in which a rate makes up for so many thousandths.
-fn ticks_to_make_up(thousandths: u64, rate: u64) -> u64
-    requires { 0 < rate }
-    ensures { result ≡ up_div thousandths rate }
-{
-    div_up(thousandths, rate).unwrap()
+    rate.ticks_for(rate.charge(ticks))
 }
 
 impl BudgetRow for SpacedRow {
@@ -89,10 +69,10 @@ impl BudgetRow for SpacedRow {
     }
 
     fn rest(&mut self, ticks: u64) -> bool {
-        if !is_tick(ticks) {
+        let Some(ticks) = Ticks::new(ticks) else {
             return false;
-        }
-        self.left = self.left().saturating_sub(ticks);
+        };
+        self.left = self.left().saturating_sub(ticks.count);
         true
     }
 
@@ -101,11 +81,13 @@ impl BudgetRow for SpacedRow {
         ensures left { self.new ≡ (if result then spaced.ended self.old ticks else self.old) }
         ensures spacing { result ≡ true → ShortestPause (rate_of self.old) ticks self.new.left }
     {
-        if !is_tick(ticks) || !self.able() {
-            return false;
+        match Ticks::new(ticks) {
+            Some(ticks) if self.able() => {
+                self.left = pause(self.lawful_rate(), ticks);
+                true
+            }
+            _ => false,
         }
-        self.left = pause(self.rate(), ticks);
-        true
     }
 
     fn able(&self) -> bool {
@@ -117,6 +99,20 @@ impl BudgetRow for SpacedRow {
     }
 
     fn rate(&self) -> u64 {
-        nearest_rate(self.rate)
+        self.lawful_rate().per_tick
+    }
+}
+
+impl LevelRow for SpacedRow {
+    fn level(&self) -> i64 {
+        -((self.rate() * self.left()) as i64)
+    }
+
+    fn ceiling(&self) -> u64 {
+        0
+    }
+
+    fn threshold(&self) -> u64 {
+        self.ceiling()
     }
 }

@@ -5,5 +5,8 @@ use Rattle.forecasting.proofs.numbers.read_digits.Given as goal
 
 -- what is left decides, and with what was read it gives the number
 abbrev pub invariant-loop-byte : goal.invariant-loop-byte
-invariant-loop-byte l =
-    (all_ascii_digits l.bytes ≡ all_ascii_digits (drop l.byte-index l.bytes)) × (min (followed_by l.value (drop l.byte-index l.bytes)) largest ≡ min (followed_by 0 l.bytes) largest) × (l.value ≤ largest)
+invariant-loop-byte l = record {
+  decides : all_ascii_digits l.bytes ≡ all_ascii_digits (drop l.byte-index l.bytes);
+  number : min (followed_by l.value (drop l.byte-index l.bytes)) largest ≡ min (followed_by 0 l.bytes) largest;
+  cut : l.value ≤ largest;
+}

@@ -1,2 +1,0 @@
-mod Fileable
-mod Read
