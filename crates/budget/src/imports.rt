@@ -7,17 +7,36 @@ use measures::limits::{LAST_TICK, MOST_WAITING, is_length, is_tick};
 use measures::refusal::Refusal;
 
 // The ticks from `start` to `end`, for which an import is to hold the lock.
-#[derive(Clone, Copy, PartialEq, Eq, Debug)]
+#[derive(Clone, Copy, PartialEq, Eq, Default, Debug)]
 pub struct Slot {
     pub start: u64,
     pub end: u64,
 }
 
-// A row, and the tick up to which it has rested.
-#[derive(Clone, Copy)]
+// A row as it is at a tick.
+#[derive(Clone, Copy, PartialEq, Eq, Debug)]
 pub struct RowAt<R> {
     pub row: R,
     pub tick: u64,
+}
+
+impl<R: BudgetRow> RowAt<R> {
+    // One import: the row rests until it is able, and runs for `length` ticks.
+    fn run(&mut self, length: u64) -> Slot
+        requires told { self.old.tick + R.meaning.wake self.old.row + length < 2 ^ 64 }
+        requires lawful { length ≤ last }
+        ensures slot { result ≡ next_slot R.meaning self.old.row self.old.tick length }
+        ensures row { self.new.row ≡ after_run R.meaning self.old.row length }
+        ensures tick { self.new.tick ≡ (next_slot R.meaning self.old.row self.old.tick length).end }
+    {
+        let wait = self.row.wake();
+        rest_long(&mut self.row, wait);
+        self.row.ended(length);
+        let start = self.tick + wait;
+        let end = start + length;
+        self.tick = end;
+        Slot { start, end }
+    }
 }
 
 // Rests a row for any number of ticks, in counts of at most the last tick.
@@ -44,8 +63,8 @@ pub fn check_lengths(lengths: &[u64]) -> Result<(), Refusal>
 }
 
 // What comes next on a row alone, from `tick` on: the slots of imports of these lengths, each begun as soon as the row is able. They are
-// written to the first places of `slots`, so that no memory is asked for. Refused, and nothing is written, for a tick above the last tick, lengths that cannot be filed,
-// or fewer places than lengths.
+// written to the first places of `slots`, so that no memory is asked for. Refused, and nothing is written, for a tick above the last tick,
+// lengths that cannot be filed, or fewer places than lengths.
 pub fn schedule<R: BudgetRow>(
     row: &R,
     tick: u64,
@@ -62,6 +81,7 @@ pub fn schedule<R: BudgetRow>(
     Ok(())
 }
 
+// The refusal in the place of a schedule, if there is one.
 fn check_schedule(tick: u64, lengths: &[u64], places: usize) -> Result<(), Refusal>
     ensures { result ≡ schedulable tick lengths.now places }
 {
@@ -91,24 +111,5 @@ fn fill_slots<R: BudgetRow>(row: &R, tick: u64, lengths: &[u64], slots: &mut [Sl
     // by index, since a proof knows nothing of a slice that was written through `iter_mut().zip(..)`
     for (i, length) in lengths.iter().enumerate() {
         slots[i] = next.run(*length);
-    }
-}
-
-impl<R: BudgetRow> RowAt<R> {
-    // One import: the row rests until it is able, and runs for `length` ticks.
-    fn run(&mut self, length: u64) -> Slot
-        requires told { self.old.tick + R.meaning.wake self.old.row + length < 2 ^ 64 }
-        requires lawful { length ≤ last }
-        ensures slot { result ≡ next_slot R.meaning self.old.row self.old.tick length }
-        ensures row { self.new.row ≡ after_run R.meaning self.old.row length }
-        ensures tick { self.new.tick ≡ (next_slot R.meaning self.old.row self.old.tick length).end }
-    {
-        let wait = self.row.wake();
-        rest_long(&mut self.row, wait);
-        self.row.ended(length);
-        let start = self.tick + wait;
-        let end = start + length;
-        self.tick = end;
-        Slot { start, end }
     }
 }

@@ -3,14 +3,13 @@ ghost use Rattle.measures.specs.Limits.{is_tick};
 ghost use Rattle.budget.specs.Meaning.{Meaning, Sentences};
 
 // The budget of one lab. Rows are plain: a host keeps them and may store anything in them, and every sentence holds of whatever a row holds.
+// A row denies by no, and not by a refusal: the rule gives what it denies no number.
 pub trait BudgetRow: Copy {
     ghost meaning: { Meaning Self };
 
     // Back to the beginning.
     fn restart(&mut self)
         ensures { self.new ≡ meaning.restarted self.old };
-
-    // A denied count is answered by no, and not by a refusal: the rule gives it no number.
 
     // So many ticks have passed without a run. No, and nothing changes, above the last tick.
     fn rest(&mut self, ticks: u64) -> bool
@@ -36,7 +35,7 @@ pub trait BudgetRow: Copy {
     ghost sentences: { Sentences meaning };
 }
 
-// A row that also tells its level and the terms that bound it.
+// A row that also tells its level, its ceiling and its threshold.
 pub trait LevelRow: BudgetRow {
     // In thousandths of a tick, as the next two, and below 0 in debt.
     fn level(&self) -> i64

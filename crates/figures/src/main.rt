@@ -2,7 +2,7 @@
 // for each its rate and the starts and ends of its imports, to be held against figures that were computed by other means.
 #![tactic(auto)]
 
-use anyhow::{anyhow, bail};
+use anyhow::anyhow;
 use budget::imports::{Slot, schedule};
 use server::ServerRow;
 use std::alloc::Global;
@@ -16,20 +16,18 @@ fn read_numbers(heap: Global, line: &str) -> anyhow::Result<Vec<u64>> {
 fn answer(rt: &HostRuntime, numbers: &[u64]) -> anyhow::Result<()> {
     match numbers {
         [rate, ceiling, threshold, lengths @ ..] if !lengths.is_empty() => {
-            let Ok(row) = ServerRow::new(*rate, *ceiling, *threshold) else {
-                bail!("no such row");
-            };
-            print_slots(rt, &row, lengths)
+            let row = ServerRow::new(*rate, *ceiling, *threshold).map_err(|_| anyhow!(
+                "no such row"
+            ))?;
+            print_schedule(rt, &row, lengths)
         }
         _ => Err(anyhow!("a line has fewer than four numbers")),
     }
 }
 
-fn print_slots(rt: &HostRuntime, row: &ServerRow, lengths: &[u64]) -> anyhow::Result<()> {
-    let mut slots = vec![in rt.alloc(); Slot { start: 0, end: 0 }; lengths.len()]?;
-    if schedule(row, 0, lengths, slots.as_mut_slice()).is_err() {
-        bail!("no schedule");
-    }
+fn print_schedule(rt: &HostRuntime, row: &ServerRow, lengths: &[u64]) -> anyhow::Result<()> {
+    let mut slots = vec![in rt.alloc(); Slot::default(); lengths.len()]?;
+    schedule(row, 0, lengths, slots.as_mut_slice()).map_err(|_| anyhow!("no schedule"))?;
     print!(rt; "{}:", row.rate)?;
     for Slot { start, end } in slots.iter() {
         print!(rt; " {start} {end}")?;

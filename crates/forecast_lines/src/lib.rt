@@ -57,14 +57,18 @@ pub enum Fault {
     #[error("word {0} is not a number")]
     NotANumber(usize),
     // the numbers are not the terms of a row of this rule and one length or more
-    #[error("usage: forecast {0}")]
+    #[error("usage: forecast {}", .0.words())]
     TooFewNumbers(Rule),
-    #[error("{0}")]
+    // the same of words that may name either rule
+    #[error("usage: forecast {}, or: forecast {}", Rule::Server.words(), Rule::Spaced.words())]
+    TooFewWords,
+    #[error(transparent)]
     Refused(Refusal),
     #[error("out of memory")]
     OutOfMemory,
 }
 
+// By hand and not by `#[from]`, since contracts name the fault that `?` makes.
 impl From<Refusal> for Fault {
     ghost from_gives = { λ r f. f ≡ Refused r };
 

@@ -1,4 +1,4 @@
-// How the lines of a forecast read.
+// How the lines of a forecast read, which no derive writes.
 use crate::{Line, Rule};
 use std::fmt;
 
@@ -67,12 +67,12 @@ impl fmt::Display for Wait {
     }
 }
 
-// The words that ask for a forecast on a row of the rule.
-impl fmt::Display for Rule {
-    fn fmt<W: fmt::Write>(&self, f: &mut fmt::Formatter<W>) -> fmt::Result {
-        f.write_str(match self {
+impl Rule {
+    // The words that ask for a forecast on a row of this rule.
+    pub(crate) fn words(self) -> &'static str {
+        match self {
             Rule::Server => "RATE CEILING THRESHOLD LENGTH...",
             Rule::Spaced => "spaced RATE LENGTH...",
-        })
+        }
     }
 }

@@ -2,7 +2,6 @@
 // `mixed_forecasting::words::forecast` answers to it.
 #![tactic(auto)]
 
-use forecast_lines::{Fault, Rule};
 use mixed_forecasting::words::forecast;
 
 fn answer(rt: &HostRuntime, command: &str) -> anyhow::Result<()> {
@@ -18,11 +17,6 @@ fn answer(rt: &HostRuntime, command: &str) -> anyhow::Result<()> {
                 println!(rt; "{line}")?;
             }
         }
-        Err(Fault::TooFewNumbers(_)) => println!(rt;
-            "forecast: usage: forecast {}, or: forecast {}",
-            Rule::Server,
-            Rule::Spaced
-        )?,
         Err(fault) => println!(rt; "forecast: {fault}")?,
     }
     Ok(())

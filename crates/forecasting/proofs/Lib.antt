@@ -1,3 +1,3 @@
 mod Asked
 mod Digits
-mod Held
+pub mod Held

@@ -13,7 +13,7 @@ use Rattle.forecast_lines.specs.declared.Line.TheVariants.{Terms, Opening, Begin
 use Rattle.forecast_lines.specs.declared.Rule.{Rule}
 use Rattle.forecast_lines.specs.declared.Rule.TheVariants.{Server, Spaced}
 use Rattle.forecast_lines.specs.declared.Fault.{Fault}
-use Rattle.forecast_lines.specs.declared.Fault.TheVariants.{NotANumber, TooFewNumbers, Refused, OutOfMemory}
+use Rattle.forecast_lines.specs.declared.Fault.TheVariants.{NotANumber, TooFewNumbers, TooFewWords, Refused, OutOfMemory}
 
 -- what comes after a grant
 infixl 20 ◌>>=◌
@@ -72,6 +72,7 @@ abbrev pub Excused : {A : Type 0} → Fault → Result A Fault → Type 0
 Excused OutOfMemory asked = Unit {0}
 Excused (NotANumber k) asked = asked ≡ Err (NotANumber k)
 Excused (TooFewNumbers rule) asked = asked ≡ Err (TooFewNumbers rule)
+Excused TooFewWords asked = asked ≡ Err TooFewWords
 Excused (Refused r) asked = asked ≡ Err (Refused r)
 
 -- the answer holds what was asked for, or says why there is none

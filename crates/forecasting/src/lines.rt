@@ -1,7 +1,7 @@
 ghost use Rattle.std.specs.Prelude.{◌≡◌, ◌++◌, IfOk, Ok, OnOk};
 ghost use Rattle.forecasting.specs.Lines.{step_lines, after_step, steps, imports as import_lines, told, Answers, on_row, foretold};
 
-use budget::imports::{RowAt, Slot, rest_long, schedule};
+use budget::imports::{RowAt, Slot, check_lengths, rest_long, schedule};
 use budget::row::{BudgetRow, LevelRow};
 use forecast_lines::{Fault, Line, Rule};
 use mixed::MixedRow;
@@ -83,12 +83,13 @@ fn tell<R: LevelRow>(heap: Global, row: &R, slots: &[Slot]) -> Result<Vec<Line>,
 pub fn forecast_row<R: LevelRow>(heap: Global, row: &R, lengths: &[u64]) -> Result<Vec<Line>, Fault>
     ensures { Answers result (on_row R.meaning (Ok row.now) lengths.now) }
 {
-    let mut slots = vec![in heap; Slot { start: 0, end: 0 }; lengths.len()]?;
+    check_lengths(lengths)?;
+    let mut slots = vec![in heap; Slot::default(); lengths.len()]?;
     schedule(row, 0, lengths, slots.as_mut_slice())?;
     Ok(tell(heap, row, slots.as_slice())?)
 }
 
-// The forecast for the terms of a row of this rule, and the lengths of imports in order.
+// The forecast for the terms of a row of this rule, and the lengths of imports in order. It goes through a mixed row, as a host's table does.
 pub fn forecast(heap: Global, rule: Rule, numbers: &[u64]) -> Result<Vec<Line>, Fault>
     ensures { Answers result (foretold rule numbers.now) }
 {

@@ -24,7 +24,7 @@ impl Rate {
         }
     }
 
-    // What it makes up for in so many ticks, in thousandths of a tick.
+    // What this rate makes up for in so many ticks, in thousandths of a tick.
     pub fn gain(self, ticks: Ticks) -> u64
         ensures value { result ≡ self.per_tick * ticks.count }
         ensures bound { result ≤ 1000 * last }
@@ -32,7 +32,7 @@ impl Rate {
         self.per_tick * ticks.count
     }
 
-    // What a run of so many ticks takes beyond it, the rest of each tick, in thousandths of a tick.
+    // What a run of so many ticks takes off a level, in thousandths of a tick: of each tick, all but this rate.
     pub fn charge(self, ticks: Ticks) -> u64
         ensures value { result ≡ (1000 - self.per_tick) * ticks.count }
         ensures bound { result ≤ 1000 * last }
@@ -40,7 +40,7 @@ impl Rate {
         (THOUSANDTHS - self.per_tick) * ticks.count
     }
 
-    // The ticks in which it makes up for so many thousandths of a tick.
+    // The ticks in which this rate makes up for so many thousandths of a tick.
     pub fn ticks_for(self, thousandths: u64) -> u64
         ensures { result ≡ up_div thousandths self.per_tick }
     {

@@ -32,6 +32,7 @@ pub enum Refusal {
 }
 
 impl Refusal {
+    // The number that callers are told.
     pub fn number(self) -> u64
         ensures { result ≡ number_of self }
     {

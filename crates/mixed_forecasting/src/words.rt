@@ -12,9 +12,7 @@ pub fn forecast(heap: Global, words: &[String]) -> Result<Vec<Line>, Fault>
     ensures { Answers result (foretold words.now) }
 {
     match words.split_first() {
-        Some((name, numbers)) if name.as_str() == "spaced" => {
-            forecast_on(heap, Rule::Spaced, numbers)
-        }
+        Some((name, rest)) if name.as_str() == "spaced" => forecast_on(heap, Rule::Spaced, rest),
         _ => forecast_on(heap, Rule::Server, words),
     }
 }
@@ -24,9 +22,13 @@ fn forecast_on(heap: Global, rule: Rule, words: &[String]) -> Result<Vec<Line>, 
     ensures { Answers result (foretold_on rule words.now) }
 {
     let numbers = read_numbers(heap, rule, words)?;
-    lines::forecast(heap, rule, numbers.as_slice())
+    match lines::forecast(heap, rule, numbers.as_slice()) {
+        Err(Fault::TooFewNumbers(_)) => Err(Fault::TooFewWords),
+        told => told,
+    }
 }
 
+// The numbers that these words write, which come after the name of the rule where it has one.
 fn read_numbers(heap: Global, rule: Rule, words: &[String]) -> Result<Vec<u64>, Fault>
     ensures { Answers result (numbers_at (first_place rule) words.now) }
 {

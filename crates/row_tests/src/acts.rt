@@ -10,7 +10,7 @@ pub enum Act {
     Ended(u64),
 }
 
-// Whether the row grants it.
+// Whether the row grants it, by yes or no as a row does.
 pub fn tell<R: BudgetRow>(row: &mut R, act: Act) -> bool {
     match act {
         Act::Restart => {

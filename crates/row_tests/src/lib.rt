@@ -1,5 +1,4 @@
-// Tests of the rows and of what comes next on them, by worked cases and at the edges of every number; each of a row alone and of a
-// mixed row that holds it.
+// Tests of the rows and of what comes next on them, by worked cases and at the edges of every number.
 #![tactic(auto)]
 
 #[cfg(test)]

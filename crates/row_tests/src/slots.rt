@@ -13,8 +13,11 @@ const BLANK: Slot = Slot { start: 77, end: 78 };
 fn check_slots(rt: &impl Abort, slots: &[Slot], starts_and_ends: &[(u64, u64)]) {
     assert_eq!(rt; slots.len(), starts_and_ends.len());
     for (slot, (start, end)) in slots.iter().zip(starts_and_ends) {
-        assert_eq!(rt; slot.start, *start);
-        assert_eq!(rt; slot.end, *end);
+        let expected = Slot {
+            start: *start,
+            end: *end,
+        };
+        assert_eq!(rt; *slot, expected);
     }
 }
 

@@ -46,7 +46,6 @@ fn a_mixed_table_answers_as_its_rows(rt: HostRuntime) -> Result<(), Fail> {
     let mut server = ServerRow::new(200, 2000, 1000)?;
     let mut spaced = SpacedRow::new(300)?;
     let mut table = [MixedRow::from(server), MixedRow::from(spaced)];
-    // by index, since a pattern over `&mut table` gets no proof
     for act in ACTS {
         check_act(&rt, &mut server, &mut table[0], act);
         check_act(&rt, &mut spaced, &mut table[1], act);

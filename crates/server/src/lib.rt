@@ -1,13 +1,13 @@
 // The server row: a budget that fills at its rate up to a ceiling, and that a run empties at the rest of each tick.
 #![tactic(auto)]
 
-ghost use Rattle.std.specs.Prelude.{◌≡◌, ◌*◌, ◌≤◌, pos, neg_ℤ, ◌≤ℤ◌};
-ghost use Rattle.measures.specs.Limits.{last, greatest_ceiling};
-ghost use Rattle.server.specs.Row.{server, made, level_of, ceiling_of, threshold_of, rate_of, deepest, debt, raised, charged, missing};
+ghost use Rattle.std.specs.Prelude.{◌≡◌, pos, neg_ℤ, ◌≤ℤ◌};
+ghost use Rattle.measures.specs.Limits.{greatest_ceiling};
+ghost use Rattle.server.specs.Row.{server, made, level_of, rate_of, deepest, raised, charged, missing};
 ghost use Rattle.server.specs.Keeps.{keeps};
 
 use budget::row::{BudgetRow, LevelRow};
-use measures::limits::{GREATEST_CEILING, is_ceiling, is_rate, is_tick};
+use measures::limits::{GREATEST_CEILING, is_ceiling, is_rate};
 use measures::rate::Rate;
 use measures::refusal::Refusal;
 use measures::ticks::Ticks;
@@ -26,6 +26,7 @@ pub struct ServerRow {
     pub able: bool,
 }
 
+// Levels and thousandths are cast by `as`: each cast is proved to lose nothing, and `try_from` would add a case that never comes.
 impl ServerRow {
     pub fn new(rate: u64, ceiling: u64, threshold: u64) -> Result<ServerRow, Refusal>
         ensures { result ≡ made rate ceiling threshold }

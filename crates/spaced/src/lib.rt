@@ -1,10 +1,9 @@
 // The spaced row: imports of one lab are spaced by a pause in proportion to the ticks held, and nothing is saved up.
 #![tactic(auto)]
 
-ghost use Rattle.std.specs.Prelude.{◌≡◌, ◌*◌, ◌<◌, ◌≤◌, true, ◌&&◌, if◌then◌else◌};
+ghost use Rattle.std.specs.Prelude.{◌≡◌, ◌*◌, ◌≤◌, true, ◌&&◌, if◌then◌else◌};
 ghost use Rattle.measures.specs.Limits.{last, is_tick};
-ghost use Rattle.measures.specs.Division.{up_div};
-ghost use Rattle.spaced.specs.Row.{spaced, made, pause, ShortestPause, rate_of, left_of, level_of};
+ghost use Rattle.spaced.specs.Row.{spaced, made, pause, ShortestPause, rate_of, left_of};
 ghost use Rattle.spaced.specs.Keeps.{keeps};
 
 use budget::row::{BudgetRow, LevelRow};
