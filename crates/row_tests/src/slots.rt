@@ -1,6 +1,8 @@
 use budget::imports::{Slot, schedule};
 use budget::row::BudgetRow;
 use measures::limits::LAST_TICK;
+use measures::refusal::Refusal;
+use measures::refusal::Refusal::{LengthOutOfRange, ListTooShort, QueueFull, TickOutOfRange};
 use mixed::MixedRow;
 use server::ServerRow;
 use spaced::SpacedRow;
@@ -93,17 +95,16 @@ fn a_pause_above_the_last_tick(rt: HostRuntime) -> Result<(), Fail> {
     check_scheduled(&rt, row, LAST_TICK, &[1_000_000, 1], &starts_and_ends)
 }
 
-// The refusal has this number, and each place is blank as before.
+// The answer is this refusal, and each place is blank as before.
 fn check_unscheduled(
     rt: &impl Abort,
     tick: u64,
     lengths: &[u64],
     slots: &mut [Slot],
-    number: u64,
+    refusal: Refusal,
 ) -> Result<(), Fail> {
     let row = ServerRow::new(200, 2000, 1000)?;
-    let refusal = schedule(&row, tick, lengths, slots).err();
-    assert_eq!(rt; refusal.map(|refusal| refusal.number()), Some(number));
+    assert_eq!(rt; schedule(&row, tick, lengths, slots).err(), Some(refusal));
     for slot in slots.iter() {
         assert_eq!(rt; *slot, BLANK);
     }
@@ -113,13 +114,13 @@ fn check_unscheduled(
 #[test]
 fn no_schedule_writes_nothing(rt: HostRuntime) -> Result<(), Fail> {
     let mut slots = [BLANK; 20];
-    check_unscheduled(&rt, LAST_TICK + 1, &[3, 1], &mut slots, 7)?;
-    check_unscheduled(&rt, u64::MAX, &[3, 1], &mut slots, 7)?;
-    check_unscheduled(&rt, 0, &[3; 17], &mut slots, 11)?;
-    check_unscheduled(&rt, 0, &[3, 0], &mut slots, 9)?;
-    check_unscheduled(&rt, 0, &[3, 1_000_001], &mut slots, 9)?;
-    check_unscheduled(&rt, 0, &[u64::MAX, 3], &mut slots, 9)?;
-    check_unscheduled(&rt, 0, &[3, 1, 4], &mut slots[0..2], 16)
+    check_unscheduled(&rt, LAST_TICK + 1, &[3, 1], &mut slots, TickOutOfRange)?;
+    check_unscheduled(&rt, u64::MAX, &[3, 1], &mut slots, TickOutOfRange)?;
+    check_unscheduled(&rt, 0, &[3; 17], &mut slots, QueueFull)?;
+    check_unscheduled(&rt, 0, &[3, 0], &mut slots, LengthOutOfRange)?;
+    check_unscheduled(&rt, 0, &[3, 1_000_001], &mut slots, LengthOutOfRange)?;
+    check_unscheduled(&rt, 0, &[u64::MAX, 3], &mut slots, LengthOutOfRange)?;
+    check_unscheduled(&rt, 0, &[3, 1, 4], &mut slots[0..2], ListTooShort)
 }
 
 #[test]
