@@ -1,22 +1,15 @@
-// forecast RATE CEILING THRESHOLD LENGTH...: when the imports of one lab will begin and end, on its budget alone.
+// forecast RATE CEILING THRESHOLD LENGTH..., or forecast spaced RATE LENGTH...: when the imports of one lab will begin and end, on its
+// budget alone.
 #![tactic(auto)]
 
-use anyhow::anyhow;
-use forecast_lines::Rule;
-use forecasting::lines::forecast;
-use forecasting::numbers::number;
+use forecasting::words::forecast;
 use std::process::ExitCode;
 use std::{env, io};
 
 fn run(rt: &HostRuntime) -> anyhow::Result<()> {
     let heap = rt.alloc();
-    let numbers: Vec<u64> = env::args(rt)?
-        .skip(1)
-        .map(|word| -> anyhow::Result<u64> {
-            number(word.as_str()).ok_or_else(|| anyhow!("'{word}' is not a number"))
-        })
-        .try_collect(heap)?;
-    for line in forecast(heap, Rule::Server, numbers.as_slice())?.iter() {
+    let words: Vec<String> = env::args(rt)?.skip(1).collect(heap)?;
+    for line in forecast(heap, words.as_slice())?.iter() {
         println!(rt; "{line}")?;
     }
     Ok(())

@@ -10,13 +10,6 @@ use thiserror::Error;
 
 pub mod text;
 
-// The budget rule of the row that a forecast is asked for.
-#[derive(Clone, Copy, PartialEq, Eq, Debug)]
-pub enum Rule {
-    Server,
-    Spaced,
-}
-
 // One line of a forecast. Imports count from 1, and a wait is the wake of the row, which is 0 just when the row is able.
 #[derive(Clone, Copy, PartialEq, Eq, Debug)]
 pub enum Line {
@@ -56,12 +49,9 @@ pub enum Fault {
     // the word at this place, counted from 1
     #[error("word {0} is not a number")]
     NotANumber(usize),
-    // the numbers are not the terms of a row of this rule and one length or more
-    #[error("usage: forecast {}", .0.words())]
-    TooFewNumbers(Rule),
-    // the same of words that may name either rule
-    #[error("usage: forecast {}, or: forecast {}", Rule::Server.words(), Rule::Spaced.words())]
-    TooFewWords,
+    // the numbers are not the terms of a row and one length or more
+    #[error("usage: forecast RATE CEILING THRESHOLD LENGTH..., or: forecast spaced RATE LENGTH...")]
+    TooFewNumbers,
     #[error(transparent)]
     Refused(Refusal),
     #[error("out of memory")]

@@ -1,5 +1,5 @@
 // How the lines of a forecast read, which no derive writes.
-use crate::{Line, Rule};
+use crate::Line;
 use std::fmt;
 
 impl fmt::Display for Line {
@@ -63,16 +63,6 @@ impl fmt::Display for Wait {
         match self.0 {
             0 => f.write_str("able"),
             ticks => write!(f, "{} to wait", Counted(ticks)),
-        }
-    }
-}
-
-impl Rule {
-    // The words that ask for a forecast on a row of this rule.
-    pub(crate) fn words(self) -> &'static str {
-        match self {
-            Rule::Server => "RATE CEILING THRESHOLD LENGTH...",
-            Rule::Spaced => "spaced RATE LENGTH...",
         }
     }
 }

@@ -1,8 +1,8 @@
 // Forecasts for many command lines: reads the words of one from each line of standard input, and prints the command and then what
-// `mixed_forecasting::words::forecast` answers to it.
+// `forecasting::words::forecast` answers to it.
 #![tactic(auto)]
 
-use mixed_forecasting::words::forecast;
+use forecasting::words::forecast;
 
 fn answer(rt: &HostRuntime, command: &str) -> anyhow::Result<()> {
     let heap = rt.alloc();

@@ -1,5 +1,5 @@
-use forecast_lines::{Fault, Line, Rule};
-use forecasting::lines::{forecast, forecast_row};
+use forecast_lines::{Fault, Line};
+use forecasting::lines::{Rule, forecast, forecast_row};
 use forecasting::numbers::number;
 use measures::limits::LAST_TICK;
 use measures::refusal::Refusal;
@@ -21,8 +21,14 @@ fn words_as_numbers(rt: HostRuntime) {
 }
 
 // What is said in the place of a forecast.
-fn check_fault(rt: &impl Abort, heap: Global, numbers: &[u64], text: &str) -> Result<(), Fail> {
-    match forecast(heap, Rule::Server, numbers) {
+fn check_fault(
+    rt: &impl Abort,
+    heap: Global,
+    rule: Rule,
+    numbers: &[u64],
+    text: &str,
+) -> Result<(), Fail> {
+    match forecast(heap, rule, numbers) {
         Ok(_) => Err(Fail::new("a forecast where there should be none")),
         Err(fault) => {
             assert!(rt; fault.to_string(heap)?.as_str() == text);
@@ -33,44 +39,50 @@ fn check_fault(rt: &impl Abort, heap: Global, numbers: &[u64], text: &str) -> Re
 
 #[test]
 fn wrong_numbers(rt: HostRuntime) -> Result<(), Fail> {
-    let heap = rt.alloc();
-    let usage = "usage: forecast RATE CEILING THRESHOLD LENGTH...";
-    check_fault(&rt, heap, &[], usage)?;
-    check_fault(&rt, heap, &[200, 2000, 1000], usage)?;
-    check_fault(
-        &rt,
-        heap,
-        &[1000, 2000, 1000, 3],
-        "refusal 1: RateOutOfRange",
-    )?;
-    check_fault(
-        &rt,
-        heap,
-        &[200, 1_000_000_001, 1000, 3],
-        "refusal 2: CeilingOutOfRange",
-    )?;
-    check_fault(
-        &rt,
-        heap,
-        &[200, 2000, 2001, 0],
-        "refusal 3: ThresholdAboveCeiling",
-    )?;
-    check_fault(
-        &rt,
-        heap,
-        &[200, 2000, 1000, 0],
-        "refusal 9: LengthOutOfRange",
-    )?;
-    check_fault(
-        &rt,
-        heap,
-        &[200, 2000, 1000, 3, LAST_TICK],
-        "refusal 9: LengthOutOfRange",
-    )?;
+    let usage =
+        "usage: forecast RATE CEILING THRESHOLD LENGTH..., or: forecast spaced RATE LENGTH...";
     let mut many = [1; 20];
-    check_fault(&rt, heap, &many, "refusal 11: QueueFull")?;
     many[10] = 0;
-    check_fault(&rt, heap, &many, "refusal 9: LengthOutOfRange")
+    let cases = [
+        (Rule::Server, [].as_slice(), usage),
+        (Rule::Server, &[200, 2000, 1000], usage),
+        (Rule::Spaced, &[], usage),
+        (Rule::Spaced, &[300], usage),
+        (
+            Rule::Server,
+            &[1000, 2000, 1000, 3],
+            "refusal 1: RateOutOfRange",
+        ),
+        (
+            Rule::Server,
+            &[200, 1_000_000_001, 1000, 3],
+            "refusal 2: CeilingOutOfRange",
+        ),
+        (
+            Rule::Server,
+            &[200, 2000, 2001, 0],
+            "refusal 3: ThresholdAboveCeiling",
+        ),
+        (
+            Rule::Server,
+            &[200, 2000, 1000, 0],
+            "refusal 9: LengthOutOfRange",
+        ),
+        (
+            Rule::Server,
+            &[200, 2000, 1000, 3, LAST_TICK],
+            "refusal 9: LengthOutOfRange",
+        ),
+        (Rule::Server, &[1; 20], "refusal 11: QueueFull"),
+        (Rule::Server, &many, "refusal 9: LengthOutOfRange"),
+        (Rule::Spaced, &[0, 1], "refusal 1: RateOutOfRange"),
+        (Rule::Spaced, &[300, 0], "refusal 9: LengthOutOfRange"),
+        (Rule::Spaced, &[1; 18], "refusal 11: QueueFull"),
+    ];
+    for (rule, numbers, text) in cases {
+        check_fault(&rt, rt.alloc(), rule, numbers, text)?;
+    }
+    Ok(())
 }
 
 // At rate 500 and threshold 0 each run of a million ticks is followed by a wait as long.
@@ -91,19 +103,6 @@ fn the_last_of_sixteen(rt: HostRuntime) -> Result<(), Fail> {
     Ok(())
 }
 
-#[test]
-fn too_few_numbers_for_a_spaced_row(rt: HostRuntime) -> Result<(), Fail> {
-    let heap = rt.alloc();
-    let usage = "usage: forecast spaced RATE LENGTH...";
-    for numbers in [[].as_slice(), &[300]] {
-        let fault = forecast(heap, Rule::Spaced, numbers).err();
-        assert_eq!(rt; fault, Some(Fault::TooFewNumbers(Rule::Spaced)));
-    }
-    let text = Fault::TooFewNumbers(Rule::Spaced).to_string(heap)?;
-    assert!(rt; text.as_str() == usage);
-    Ok(())
-}
-
 // A run of 1 tick on a spaced row of rate 300 is followed by a pause of 3.
 #[test]
 fn imports_on_a_row_that_is_there(rt: HostRuntime) -> Result<(), Fail> {
@@ -120,5 +119,12 @@ fn imports_on_a_row_that_is_there(rt: HostRuntime) -> Result<(), Fail> {
         forecast_row(rt.alloc(), &row, &[1, 0]).err(),
         Some(Fault::Refused(Refusal::LengthOutOfRange))
     );
+    Ok(())
+}
+
+#[test]
+fn want_of_memory(rt: HostRuntime) -> Result<(), Fail> {
+    let text = Fault::OutOfMemory.to_string(rt.alloc())?;
+    assert!(rt; text.as_str() == "out of memory");
     Ok(())
 }

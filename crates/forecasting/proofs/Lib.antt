@@ -1,3 +1,3 @@
 mod Asked
 mod Digits
-pub mod Held
+mod Held

@@ -1,2 +1,3 @@
 pub mod Lines
 pub mod Numbers
+pub mod Words

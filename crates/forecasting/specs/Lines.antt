@@ -10,10 +10,10 @@ use Rattle.server.specs.Row.{server, made as server_made}
 use Rattle.spaced.specs.Row.{spaced, made as spaced_made}
 use Rattle.forecast_lines.specs.declared.Line.{Line}
 use Rattle.forecast_lines.specs.declared.Line.TheVariants.{Terms, Opening, Begin, End, Import}
-use Rattle.forecast_lines.specs.declared.Rule.{Rule}
-use Rattle.forecast_lines.specs.declared.Rule.TheVariants.{Server, Spaced}
 use Rattle.forecast_lines.specs.declared.Fault.{Fault}
-use Rattle.forecast_lines.specs.declared.Fault.TheVariants.{NotANumber, TooFewNumbers, TooFewWords, Refused, OutOfMemory}
+use Rattle.forecast_lines.specs.declared.Fault.TheVariants.{NotANumber, TooFewNumbers, Refused, OutOfMemory}
+use Rattle.forecasting.specs.declared.lines.Rule.{Rule}
+use Rattle.forecasting.specs.declared.lines.Rule.TheVariants.{Server, Spaced}
 
 -- what comes after a grant
 infixl 20 ◌>>=◌
@@ -64,15 +64,14 @@ on_row m row cs = or_fault (row >>= λ x. fileable cs >>= λ _. Ok (told m x (sc
 -- row a rate
 abbrev pub foretold : Rule → List ℕ → Result (List Line) Fault
 foretold Server ns =
-    if nat_lt (length ns) 4 then Err (TooFewNumbers Server) else on_row server (server_made (slice_index ns 0) (slice_index ns 1) (slice_index ns 2)) (drop 3 ns)
-foretold Spaced ns = if nat_lt (length ns) 2 then Err (TooFewNumbers Spaced) else on_row spaced (spaced_made (slice_index ns 0)) (drop 1 ns)
+    if nat_lt (length ns) 4 then Err TooFewNumbers else on_row server (server_made (slice_index ns 0) (slice_index ns 1) (slice_index ns 2)) (drop 3 ns)
+foretold Spaced ns = if nat_lt (length ns) 2 then Err TooFewNumbers else on_row spaced (spaced_made (slice_index ns 0)) (drop 1 ns)
 
 -- what a fault says of what was asked for; want of memory says nothing
 abbrev pub Excused : {A : Type 0} → Fault → Result A Fault → Type 0
 Excused OutOfMemory asked = Unit {0}
 Excused (NotANumber k) asked = asked ≡ Err (NotANumber k)
-Excused (TooFewNumbers rule) asked = asked ≡ Err (TooFewNumbers rule)
-Excused TooFewWords asked = asked ≡ Err TooFewWords
+Excused TooFewNumbers asked = asked ≡ Err TooFewNumbers
 Excused (Refused r) asked = asked ≡ Err (Refused r)
 
 -- the answer holds what was asked for, or says why there is none

@@ -3,3 +3,4 @@
 
 pub mod lines;
 pub mod numbers;
+pub mod words;

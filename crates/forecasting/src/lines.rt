@@ -3,11 +3,18 @@ ghost use Rattle.forecasting.specs.Lines.{step_lines, after_step, steps, imports
 
 use budget::imports::{RowAt, Slot, check_lengths, rest_long, schedule};
 use budget::row::{BudgetRow, LevelRow};
-use forecast_lines::{Fault, Line, Rule};
+use forecast_lines::{Fault, Line};
 use mixed::MixedRow;
 use server::ServerRow;
 use spaced::SpacedRow;
 use std::alloc::{AllocError, Global};
+
+// The budget rule of the row that a forecast is asked for.
+#[derive(Clone, Copy, PartialEq, Eq, Debug)]
+pub enum Rule {
+    Server,
+    Spaced,
+}
 
 // One import in its slot, on a row that has rested up to its tick: its two lines, and the row as the import leaves it.
 fn step<R: LevelRow>(at: &mut RowAt<R>, import: u64, slot: Slot) -> [Line; 2]
@@ -102,6 +109,6 @@ pub fn forecast(heap: Global, rule: Rule, numbers: &[u64]) -> Result<Vec<Line>, 
             let row = SpacedRow::new(*rate)?;
             forecast_row(heap, &MixedRow::from(row), lengths)
         }
-        _ => Err(Fault::TooFewNumbers(rule)),
+        _ => Err(Fault::TooFewNumbers),
     }
 }

@@ -1,7 +1,7 @@
 use Rattle.std.proofs.Common.{◌≡◌, ◌+◌, ◌++◌, drop, vec_items, Ok}
 use Rattle.forecasting.specs.Lines.{◌>>=◌}
-use Rattle.mixed_forecasting.specs.Words.{numbers_at}
-use Rattle.mixed_forecasting.proofs.words.read_numbers.Given as goal
+use Rattle.forecasting.specs.Words.{numbers_at}
+use Rattle.forecasting.proofs.words.read_numbers.Given as goal
 
 -- the numbers so far, and then those that what is left gives, are all
 abbrev pub invariant-loop-i : goal.invariant-loop-i

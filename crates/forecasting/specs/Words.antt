@@ -1,16 +1,16 @@
 -- What the words of a command line ask for.
-use Rattle.std.specs.Prelude.{ℕ, ◌+◌, List, [], ◌∷◌, Ok, Err, string_bytes, codes, Result, String, if◌then◌else◌}
+use Rattle.std.specs.Prelude.{ℕ, ◌+◌, List, [], ◌∷◌, Ok, string_bytes, codes, Result, String, if◌then◌else◌}
 use Rattle.std.specs.Option.{ok_or}
 use Rattle.std.specs.Str.{bytes_eq}
 use Rattle.std.specs.declared.alloc.Global.{Global}
-use Rattle.forecasting.specs.Lines as numbers
+use Rattle.forecasting.specs.Lines as lines
 use Rattle.forecasting.specs.Lines.{◌>>=◌}
 use Rattle.forecasting.specs.Numbers.{number_of}
+use Rattle.forecasting.specs.declared.lines.Rule.{Rule}
+use Rattle.forecasting.specs.declared.lines.Rule.TheVariants.{Server, Spaced}
 use Rattle.forecast_lines.specs.declared.Line.{Line}
-use Rattle.forecast_lines.specs.declared.Rule.{Rule}
-use Rattle.forecast_lines.specs.declared.Rule.TheVariants.{Server, Spaced}
 use Rattle.forecast_lines.specs.declared.Fault.{Fault}
-use Rattle.forecast_lines.specs.declared.Fault.TheVariants.{NotANumber, TooFewNumbers, TooFewWords}
+use Rattle.forecast_lines.specs.declared.Fault.TheVariants.{NotANumber}
 
 -- the numbers that these words write, or the first of them that writes none, told by its place; the first of them has place k
 abbrev pub numbers_at : ℕ → List (String Global) → Result (List ℕ) Fault
@@ -22,15 +22,9 @@ abbrev pub first_place : Rule → ℕ
 first_place Server = 1
 first_place Spaced = 2
 
--- what is said of words where it is said of their numbers; too few of them are told as too few words
-abbrev pub in_words : Result (List Line) Fault → Result (List Line) Fault
-in_words (Ok lines) = Ok lines
-in_words (Err (TooFewNumbers rule)) = Err TooFewWords
-in_words (Err f) = Err f
-
 -- the forecast on a row of this rule that these words ask for by their numbers
 abbrev pub foretold_on : Rule → List (String Global) → Result (List Line) Fault
-foretold_on rule ws = numbers_at (first_place rule) ws >>= λ ns. in_words (numbers.foretold rule ns)
+foretold_on rule ws = numbers_at (first_place rule) ws >>= lines.foretold rule
 
 -- the forecast on a spaced row if the first word is `spaced`, and else on a server row
 abbrev pub foretold : List (String Global) → Result (List Line) Fault

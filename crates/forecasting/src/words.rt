@@ -1,10 +1,10 @@
 ghost use Rattle.std.specs.Prelude.{◌≡◌, ◌≤◌};
 ghost use Rattle.forecasting.specs.Lines.{Answers};
-ghost use Rattle.mixed_forecasting.specs.Words.{first_place, numbers_at, foretold_on, foretold};
+ghost use Rattle.forecasting.specs.Words.{first_place, numbers_at, foretold_on, foretold};
 
-use forecast_lines::{Fault, Line, Rule};
-use forecasting::lines;
-use forecasting::numbers::number;
+use crate::lines::{self, Rule};
+use crate::numbers::number;
+use forecast_lines::{Fault, Line};
 use std::alloc::Global;
 
 // The forecast that the words of a command line ask for: RATE CEILING THRESHOLD LENGTH... for a server row, or spaced RATE LENGTH...
@@ -22,10 +22,7 @@ fn forecast_on(heap: Global, rule: Rule, words: &[String]) -> Result<Vec<Line>, 
     ensures { Answers result (foretold_on rule words.now) }
 {
     let numbers = read_numbers(heap, rule, words)?;
-    match lines::forecast(heap, rule, numbers.as_slice()) {
-        Err(Fault::TooFewNumbers(_)) => Err(Fault::TooFewWords),
-        told => told,
-    }
+    lines::forecast(heap, rule, numbers.as_slice())
 }
 
 // The numbers that these words write, which come after the name of the rule where it has one.
