@@ -1,0 +1,4 @@
+pub mod Orders
+pub mod Own
+pub mod CircularOrder
+pub mod LongestUnservedOrder

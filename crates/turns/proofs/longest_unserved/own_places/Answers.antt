@@ -1,0 +1,6 @@
+use Rattle.std.proofs.Common.{arith}
+use Rattle.turns.proofs.Own.{own_filled}
+use Rattle.turns.proofs.longest_unserved.own_places.Goals as goal
+
+pub returns : goal.returns
+returns c = own_filled c.loop-n.place-items c.loop-n-test.array_long (λ n low. c.loop-n.invariant n (omega arith))

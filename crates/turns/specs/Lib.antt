@@ -1,0 +1,7 @@
+pub mod Orders
+pub mod Turns
+pub mod Circular
+pub mod CircularIsFair
+pub mod Places
+pub mod LongestUnserved
+pub mod LongestUnservedIsFair

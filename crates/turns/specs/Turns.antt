@@ -1,0 +1,32 @@
+-- What a turn rule means to its callers, whatever it is made of, and what every turn rule has to show.
+use Rattle.std.specs.Prelude.{◌≡◌, ℕ, ◌<◌, Bool, ◌&&◌, nat_lt, if◌then◌else◌}
+use Rattle.measures.specs.Limits.{most_labs}
+use Rattle.turns.specs.Orders.{is_number}
+
+-- A turn rule is an order of the numbers 0 to 63.
+pub record Turns (T : Type 0) : Type 0 where
+  -- where each number stands, the first at place 0
+  pub place : T → ℕ → ℕ
+  -- the rule after a number was served
+  pub served : T → ℕ → T
+
+module _ {T : Type 0} (m : Turns T) where
+  -- a comes before b
+  abbrev pub is_ahead : T → ℕ → ℕ → Bool
+  is_ahead x a b = is_number a && is_number b && nat_lt (m.place x a) (m.place x b)
+
+  -- the rule after it heard that k was served: a number above 63 changes nothing
+  abbrev pub after_served : T → ℕ → T
+  after_served x k = if is_number k then m.served x k else x
+
+-- The laws, of whatever a turn rule holds.
+pub record Fair {T : Type 0} (m : Turns T) : Type 0 where
+  -- no two in one place
+  pub apart : (x : T) (a b : ℕ) → a < most_labs → b < most_labs → m.place x a ≡ m.place x b → a ≡ b
+  -- each number behind k is then ahead of k
+  pub yields : (x : T) (k j : ℕ) → k < most_labs → j < most_labs → m.place x k < m.place x j
+      → m.place (m.served x k) j < m.place (m.served x k) k
+  -- numbers behind k keep their order among themselves
+  pub keeps : (x : T) (k i j : ℕ) → k < most_labs → i < most_labs → j < most_labs
+      → m.place x k < m.place x i → m.place x i < m.place x j
+      → m.place (m.served x k) i < m.place (m.served x k) j
