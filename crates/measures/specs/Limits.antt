@@ -1,5 +1,5 @@
 -- The limits of the whole product, and which numbers lie within them.
-use Rattle.std.specs.Prelude.{ℕ, min, max, Bool, ◌&&◌, nat_le}
+use Rattle.std.specs.Prelude.{ℕ, ◌-◌, min, max, Bool, ◌&&◌, nat_le}
 
 -- ticks count from 0 to this one
 abbrev pub last : ℕ
@@ -18,6 +18,10 @@ greatest_ceiling = 1000000000
 
 abbrev pub most_labs : ℕ
 most_labs = 64
+
+-- labs are numbered from 0 to this one
+abbrev pub greatest_lab_number : ℕ
+greatest_lab_number = most_labs - 1
 
 -- waiting tickets of one lab
 abbrev pub most_waiting : ℕ
@@ -54,6 +58,10 @@ is_length c = nat_le 1 c && nat_le c greatest_length
 -- as many labs as a gate may have
 abbrev pub is_lab_count : ℕ → Bool
 is_lab_count n = nat_le 1 n && nat_le n most_labs
+
+-- a number that a lab may have
+abbrev pub is_lab_number : ℕ → Bool
+is_lab_number k = nat_le k greatest_lab_number
 
 abbrev pub is_rate_sum : ℕ → Bool
 is_rate_sum n = nat_le n greatest_rate_sum

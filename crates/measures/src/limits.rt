@@ -1,5 +1,5 @@
 ghost use Rattle.std.specs.Prelude.{◌≡◌};
-ghost use Rattle.measures.specs.Limits.{is_tick, is_rate, is_ceiling, is_length, is_lab_count, is_rate_sum, is_full, is_all_given};
+ghost use Rattle.measures.specs.Limits.{is_tick, is_rate, is_ceiling, is_length, is_lab_count, is_lab_number, is_rate_sum, is_full, is_all_given};
 
 // Levels, ceilings and thresholds are in thousandths of a tick, and rates in thousandths per tick.
 pub const THOUSANDTHS: u64 = 1000;
@@ -13,6 +13,8 @@ pub const GREATEST_RATE: u64 = 999;
 pub const GREATEST_CEILING: u64 = 1_000_000_000;
 
 pub const MOST_LABS: u64 = 64;
+
+pub const GREATEST_LAB_NUMBER: u64 = MOST_LABS - 1;
 
 pub const MOST_WAITING: u64 = 16;
 
@@ -53,6 +55,12 @@ pub fn is_lab_count(labs: u64) -> bool
     ensures { result ≡ is_lab_count labs }
 {
     (1..=MOST_LABS).contains(&labs)
+}
+
+pub fn is_lab_number(number: u64) -> bool
+    ensures { result ≡ is_lab_number number }
+{
+    number <= GREATEST_LAB_NUMBER
 }
 
 pub fn is_rate_sum(sum: u64) -> bool

@@ -1,48 +1,42 @@
-use crate::numbers::{NUMBERS, agree, check_order};
-use turns::circular::CircularTurns;
-use turns::longest_unserved::LongestUnservedTurns;
+use crate::numbers::{NUMBERS, after, check_order};
 use turns::rule::TurnRule;
 
-// After one serving the rules agree only where an end of the order was served.
+// Whether both rules give the same order.
+fn agree(servings: &[u64]) -> bool {
+    let (circular, longest) = after(servings);
+    for a in NUMBERS {
+        for b in NUMBERS {
+            if circular.ahead(a, b) != longest.ahead(a, b) {
+                return false;
+            }
+        }
+    }
+    true
+}
+
+// After one serving they do where 0 or 63 was served, and nowhere else.
 #[test]
 fn after_one_serving(rt: HostRuntime) {
     for k in NUMBERS {
-        let mut circular = CircularTurns::new();
-        let mut longest = LongestUnservedTurns::new();
-        circular.served(k);
-        longest.served(k);
-        assert_eq!(rt; agree(&circular, &longest), k == 0 || k == 63);
+        assert_eq!(rt; agree(&[k]), k == 0 || k == 63);
     }
 }
 
-// The first two servings after which they differ, where they agreed after the first: 0 and then 2.
+// In the order of their numbers, 0 and then 2 are the first two servings after which they do not.
 #[test]
 fn after_two_servings(rt: HostRuntime) {
     for k in NUMBERS {
-        let mut circular = CircularTurns::new();
-        let mut longest = LongestUnservedTurns::new();
-        circular.served(0);
-        longest.served(0);
-        assert!(rt; agree(&circular, &longest));
-        circular.served(k);
-        longest.served(k);
-        assert_eq!(rt; agree(&circular, &longest), k < 2);
+        assert_eq!(rt; agree(&[0, k]), k < 2);
     }
 }
 
+// 3, 4 to 63, 0, 1, 2 under circular turns, and 1, 3, 4 to 63, 0, 2 under longest-unserved turns
 #[test]
 fn first_0_and_then_2(rt: HostRuntime) {
-    let mut circular = CircularTurns::new();
-    let mut longest = LongestUnservedTurns::new();
-    circular.served(0);
-    longest.served(0);
-    circular.served(2);
-    longest.served(2);
-    // 3, 4 to 63, 0, 1, 2
+    let (circular, longest) = after(&[0, 2]);
     let mut order = NUMBERS;
     order.rotate_left(3);
     check_order(&rt, &circular, &order);
-    // 1, 3, 4 to 63, 0, 2
     order = NUMBERS;
     order.rotate_left(1);
     order[1..].rotate_left(1);

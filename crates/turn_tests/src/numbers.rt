@@ -1,4 +1,6 @@
 use std::process::Abort;
+use turns::circular::CircularTurns;
+use turns::longest_unserved::LongestUnservedTurns;
 use turns::rule::TurnRule;
 
 pub const NUMBERS: [u64; 64] = [
@@ -7,6 +9,17 @@ pub const NUMBERS: [u64; 64] = [
     50, 51, 52, 53, 54, 55, 56, 57, 58, 59, 60, 61, 62, 63,
 ];
 
+// Both rules, after these were served one after another.
+pub fn after(servings: &[u64]) -> (CircularTurns, LongestUnservedTurns) {
+    let mut circular = CircularTurns::new();
+    let mut longest = LongestUnservedTurns::new();
+    for k in servings {
+        circular.served(*k);
+        longest.served(*k);
+    }
+    (circular, longest)
+}
+
 // Each number is ahead of those that stand behind it in the order, and of no others.
 pub fn check_order(rt: &impl Abort, rule: &impl TurnRule, order: &[u64; 64]) {
     for (i, a) in order.iter().enumerate() {
@@ -14,15 +27,4 @@ pub fn check_order(rt: &impl Abort, rule: &impl TurnRule, order: &[u64; 64]) {
             assert_eq!(rt; rule.ahead(*a, *b), i < j);
         }
     }
-}
-
-pub fn agree(one: &impl TurnRule, other: &impl TurnRule) -> bool {
-    for a in NUMBERS {
-        for b in NUMBERS {
-            if one.ahead(a, b) != other.ahead(a, b) {
-                return false;
-            }
-        }
-    }
-    true
 }

@@ -2,15 +2,17 @@
 use Rattle.std.proofs.Common.{◌≡◌, ℕ, ◌+◌, ◌-◌, ◌<◌, ◌≤◌, suc, Bool, true, not, List, [], ◌∷◌, ◌++◌, map, ◌==◌, slice_index, refl, sym, ap, ◌∙◌, append_assoc, arith}
 use Rattle.std.specs.List.{range_with_len, filter, flat_map}
 use Rattle.std.proofs.lemmas.List.Elements.{filter-append}
-use Rattle.measures.specs.Limits.{most_labs}
-use Rattle.turns.specs.Orders.{greatest_number, from_to, standing_at, in_order}
-use Rattle.turns.specs.Places.{moved, place_own}
-use Rattle.turns.specs.LongestUnserved.{place, begun, served, order, with_last}
+use Rattle.measures.specs.Limits.{most_labs, greatest_lab_number}
+use Rattle.turns.specs.Orders.{from_to, standing_at, in_order}
+use Rattle.turns.specs.Turns.{order}
+use Rattle.turns.specs.Places.{moved}
+use Rattle.turns.specs.PlacesStay.{place_own}
+use Rattle.turns.specs.LongestUnserved.{longest_unserved, place, begun, served, with_last}
 use Rattle.turns.specs.LongestUnservedIsFair.{place_served}
 use Rattle.turns.specs.declared.longest_unserved.LongestUnservedTurns.{LongestUnservedTurns}
 use Rattle.turns.proofs.Orders.{in_order-range, flat_map-parts, flat_map-ranges, filter-ranges, standing_alone, in_own_order}
 
-pub order_begins : order begun ≡ from_to 0 greatest_number
+pub order_begins : order longest_unserved begun ≡ from_to 0 greatest_lab_number
 order_begins = in_own_order (place begun) place_own
 
 filter_kept : (p q : ℕ → Bool) (xs : List ℕ) → ((n : ℕ) → p n ≡ true → q n ≡ true) → filter q (filter p xs) ≡ filter p xs
@@ -23,7 +25,7 @@ filter-flat_map q f (x ∷ xs) = filter-append q (f x) (flat_map f xs) ∙ ap (�
 
 -- f are the places before k was served, and g those after it
 module _ (f g : ℕ → ℕ) (k : ℕ) (k_low : k < most_labs)
-    (within : (n : ℕ) → n < most_labs → f n ≤ greatest_number)
+    (within : (n : ℕ) → n < most_labs → f n ≤ greatest_lab_number)
     (apart : (a b : ℕ) → a < most_labs → b < most_labs → f a ≡ f b → a ≡ b)
     (g_is : (n : ℕ) → n < most_labs → g n ≡ moved (f k) (f n))
   where
@@ -34,7 +36,7 @@ module _ (f g : ℕ → ℕ) (k : ℕ) (k_low : k < most_labs)
         filter-ranges (λ n. g n == p) (λ n. f n == q) 0 most_labs (λ n low high. let is = g_is n high in let was = within n high in let k_was = within k k_low in grind arith)
 
     -- those who stood behind k move up by one
-    behind : (p q : ℕ) → f k ≤ p → p < greatest_number → p + 1 ≡ q → standing_at g p ≡ standing_at f q
+    behind : (p q : ℕ) → f k ≤ p → p < greatest_lab_number → p + 1 ≡ q → standing_at g p ≡ standing_at f q
     unfolding standing_at from_to
     behind p q p_behind p_high next =
         filter-ranges (λ n. g n == p) (λ n. f n == q) 0 most_labs (λ n low high. let is = g_is n high in let was = within n high in grind arith)
@@ -42,8 +44,8 @@ module _ (f g : ℕ → ℕ) (k : ℕ) (k_low : k < most_labs)
     same_place : (n : ℕ) → n < most_labs → (f n == f k) ≡ (n == k)
     same_place n low = let one = apart n k low k_low in grind arith
 
-    at_end : standing_at g greatest_number ≡ k ∷ []
-    at_end = standing_alone g greatest_number k k_low (λ n low. let is = g_is n low in let was = within n low in let one = same_place n low in grind arith)
+    at_end : standing_at g greatest_lab_number ≡ k ∷ []
+    at_end = standing_alone g greatest_lab_number k k_low (λ n low. let is = g_is n low in let was = within n low in let one = same_place n low in grind arith)
 
     where_k_was : standing_at f (f k) ≡ k ∷ []
     where_k_was = standing_alone f (f k) k k_low same_place
@@ -53,13 +55,13 @@ module _ (f g : ℕ → ℕ) (k : ℕ) (k_low : k < most_labs)
 
     others : (p : ℕ) → (p ≡ f k → ⊥) → filter not_k (standing_at f p) ≡ standing_at f p
     unfolding standing_at
-    others p other = filter_kept (λ n. f n == p) not_k (from_to 0 greatest_number) (λ n stands. grind arith)
+    others p other = filter_kept (λ n. f n == p) not_k (from_to 0 greatest_lab_number) (λ n stands. grind arith)
 
     order_moved : in_order g ≡ with_last k (in_order f)
     order_moved =
         let c = f k in
-        let above = greatest_number - c in
-        let c_high : c ≤ greatest_number = within k k_low in
+        let above = greatest_lab_number - c in
+        let c_high : c ≤ greatest_lab_number = within k k_low in
         let F = standing_at f in
         let G = standing_at g in
         let kept : ℕ → List ℕ = λ p. filter not_k (F p) in
@@ -67,7 +69,7 @@ module _ (f g : ℕ → ℕ) (k : ℕ) (k_low : k < most_labs)
         let from_c = range_with_len c above in
         let behind_c = range_with_len (c + 1) above in
         let ends : flat_map G (range_with_len c (suc above)) ≡ flat_map G from_c ++ (k ∷ []) =
-        flat_map-parts G c greatest_number above 1 (suc above) (omega arith) (omega arith) ∙ ap (λ l. flat_map G from_c ++ l) (rw at_end refl) in
+        flat_map-parts G c greatest_lab_number above 1 (suc above) (omega arith) (omega arith) ∙ ap (λ l. flat_map G from_c ++ l) (rw at_end refl) in
         let all_of_g : in_order g ≡ flat_map G to_c ++ (flat_map G from_c ++ (k ∷ [])) =
         in_order-range g ∙ flat_map-parts G 0 c c (suc above) most_labs (omega arith) (omega arith) ∙ ap (λ l. flat_map G to_c ++ l) ends in
         let all_of_f : filter not_k (in_order f) ≡ flat_map kept to_c ++ (kept c ++ flat_map kept behind_c) =
@@ -79,5 +81,5 @@ module _ (f g : ℕ → ℕ) (k : ℕ) (k_low : k < most_labs)
         let gone : kept c ≡ [] = let itself : (k == k) ≡ true = grind arith in ap (filter not_k) where_k_was ∙ rw itself refl in
         all_of_g ∙ rw (ahead_stay, behind_move, all_of_f, gone) (sym (append_assoc (flat_map kept to_c) (flat_map kept behind_c) (k ∷ [])))
 
-pub order_moved_to_end : (x : LongestUnservedTurns) (k : ℕ) (places : List ℕ) → k < most_labs → places ≡ map (moved (place x k)) x.places → in_order (slice_index places) ≡ with_last k (order x)
+pub order_moved_to_end : (x : LongestUnservedTurns) (k : ℕ) (places : List ℕ) → k < most_labs → places ≡ map (moved (place x k)) x.places → in_order (slice_index places) ≡ with_last k (order longest_unserved x)
 order_moved_to_end x k places k_low is = ap (λ l. in_order (slice_index l)) is ∙ order_moved (place x) (place (served x k)) k k_low x.within x.apart (place_served x k)

@@ -3,8 +3,8 @@ use Rattle.std.proofs.Common.{◌≡◌, ℕ, zero, suc, ◌+◌, ◌-◌, ◌<�
 use Rattle.std.proofs.lemmas.Grind.{flat_map-append}
 use Rattle.std.proofs.lemmas.List.Elements.{filter-append}
 use Rattle.std.specs.List.{range_with_len, filter, flat_map}
-use Rattle.measures.specs.Limits.{most_labs}
-use Rattle.turns.specs.Orders.{greatest_number, from_to, standing_at, in_order}
+use Rattle.measures.specs.Limits.{most_labs, greatest_lab_number}
+use Rattle.turns.specs.Orders.{from_to, standing_at, in_order}
 
 pub from_to-range : (a b n : ℕ) → a + n ≡ b + 1 → from_to a b ≡ range_with_len a n
 unfolding from_to
@@ -12,10 +12,10 @@ from_to-range a b n long = ap (range_with_len a) (omega arith)
 
 pub in_order-range : (place : ℕ → ℕ) → in_order place ≡ flat_map (standing_at place) (range_with_len 0 most_labs)
 unfolding in_order
-in_order-range place = ap (flat_map (standing_at place)) (from_to-range 0 greatest_number most_labs refl)
+in_order-range place = ap (flat_map (standing_at place)) (from_to-range 0 greatest_lab_number most_labs refl)
 
 -- a range from a on, of which the first m end before b
-pub range-append : (a b m n k : ℕ) → a + m ≡ b → m + n ≡ k → range_with_len a k ≡ range_with_len a m ++ range_with_len b n
+range-append : (a b m n k : ℕ) → a + m ≡ b → m + n ≡ k → range_with_len a k ≡ range_with_len a m ++ range_with_len b n
 range-append a b zero n k ends whole = let same : a ≡ b = omega arith in let long : n ≡ k = omega arith in cc
 range-append a b (suc m) n zero ends whole = absurd (omega arith)
 range-append a b (suc m) n (suc k) ends whole = ap (λ l. a ∷ l) (range-append (a + 1) b m n k (omega arith) (omega arith))
@@ -39,7 +39,7 @@ filter-ranges p q a (suc n) same =
     cc
 
 -- none of a range passes
-pub filter_none : (p : ℕ → Bool) (a n : ℕ) → ((i : ℕ) → a ≤ i → i < a + n → p i ≡ false) → filter p (range_with_len a n) ≡ []
+filter_none : (p : ℕ → Bool) (a n : ℕ) → ((i : ℕ) → a ≤ i → i < a + n → p i ≡ false) → filter p (range_with_len a n) ≡ []
 filter_none p a zero none = refl
 filter_none p a (suc n) none =
     let here = none a (omega arith) (omega arith) in
@@ -74,9 +74,9 @@ standing_in_turn place a b n within alone =
     flat_map-ranges (standing_at place) (λ k. k ∷ []) a b n (λ p k low high next. standing_alone place p k (omega arith) (λ m. alone p k m low high next))
     ∙ flat_map-singles (range_with_len b n)
 
--- an order in which each number stands at the place of its own
-pub in_own_order : (place : ℕ → ℕ) → ((n : ℕ) → n < most_labs → place n ≡ n) → in_order place ≡ from_to 0 greatest_number
+-- an order in which number n stands at place n
+pub in_own_order : (place : ℕ → ℕ) → ((n : ℕ) → n < most_labs → place n ≡ n) → in_order place ≡ from_to 0 greatest_lab_number
 in_own_order place own =
     in_order-range place
     ∙ standing_in_turn place 0 0 most_labs (omega arith) (λ p k m low high next m_low. let is = own m m_low in grind arith)
-    ∙ sym (from_to-range 0 greatest_number most_labs refl)
+    ∙ sym (from_to-range 0 greatest_lab_number most_labs refl)

@@ -1,15 +1,15 @@
 -- Longest-unserved turns: whoever was served goes to the end.
 use Rattle.std.specs.Prelude.{ℕ, List, [], ◌∷◌, ◌++◌, map, not, slice_index, ◌==◌}
 use Rattle.std.specs.List.{filter}
-use Rattle.turns.specs.Orders.{in_order}
 use Rattle.turns.specs.Turns.{Turns}
-use Rattle.turns.specs.Places.{moved, own, whole_own, within_own, apart_own, whole_moved, within_moved, apart_moved}
+use Rattle.turns.specs.Places.{own, moved}
+use Rattle.turns.specs.PlacesStay.{whole_own, within_own, apart_own, whole_moved, within_moved, apart_moved}
 use Rattle.turns.specs.declared.longest_unserved.LongestUnservedTurns.{LongestUnservedTurns}
 
 abbrev pub place : LongestUnservedTurns → ℕ → ℕ
 place x n = slice_index x.places n
 
--- before anyone was served: each number at the place of its own
+-- before anyone was served: number n at place n
 abbrev pub begun : LongestUnservedTurns
 begun = record { places = own; whole = whole_own; within = within_own; apart = apart_own }
 
@@ -24,10 +24,6 @@ served x k = let c = place x k in record {
 abbrev pub longest_unserved : Turns LongestUnservedTurns
 longest_unserved = record { place = place; served = served }
 
--- the numbers in their order
-abbrev pub order : LongestUnservedTurns → List ℕ
-order x = in_order (place x)
-
 -- k moved to the end of an order, and nothing else
 abbrev pub with_last : ℕ → List ℕ → List ℕ
-with_last k order = filter (λ n. not (n == k)) order ++ k ∷ []
+with_last k numbers = filter (λ n. not (n == k)) numbers ++ k ∷ []

@@ -3,7 +3,8 @@ use Rattle.std.specs.Prelude.{◌≡◌, ℕ, ◌<◌}
 use Rattle.std.proofs.Common.{arith}
 use Rattle.measures.specs.Limits.{most_labs}
 use Rattle.turns.specs.Turns.{Fair}
-use Rattle.turns.specs.Places.{moved, place_moved}
+use Rattle.turns.specs.Places.{moved}
+use Rattle.turns.specs.PlacesStay.{place_moved}
 use Rattle.turns.specs.LongestUnserved.{place, served, longest_unserved}
 use Rattle.turns.specs.declared.longest_unserved.LongestUnservedTurns.{LongestUnservedTurns}
 

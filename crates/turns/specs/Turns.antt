@@ -1,11 +1,11 @@
 -- What a turn rule means to its callers, whatever it is made of, and what every turn rule has to show.
-use Rattle.std.specs.Prelude.{◌≡◌, ℕ, ◌<◌, Bool, ◌&&◌, nat_lt, if◌then◌else◌}
-use Rattle.measures.specs.Limits.{most_labs}
-use Rattle.turns.specs.Orders.{is_number}
+use Rattle.std.specs.Prelude.{◌≡◌, ℕ, ◌<◌, Bool, ◌&&◌, nat_lt, List, if◌then◌else◌}
+use Rattle.measures.specs.Limits.{most_labs, is_lab_number}
+use Rattle.turns.specs.Orders.{in_order}
 
 -- A turn rule is an order of the numbers 0 to 63.
 pub record Turns (T : Type 0) : Type 0 where
-  -- where each number stands, the first at place 0
+  -- where each number stands: a lower place comes first
   pub place : T → ℕ → ℕ
   -- the rule after a number was served
   pub served : T → ℕ → T
@@ -13,11 +13,15 @@ pub record Turns (T : Type 0) : Type 0 where
 module _ {T : Type 0} (m : Turns T) where
   -- a comes before b
   abbrev pub is_ahead : T → ℕ → ℕ → Bool
-  is_ahead x a b = is_number a && is_number b && nat_lt (m.place x a) (m.place x b)
+  is_ahead x a b = is_lab_number a && is_lab_number b && nat_lt (m.place x a) (m.place x b)
 
   -- the rule after it heard that k was served: a number above 63 changes nothing
   abbrev pub after_served : T → ℕ → T
-  after_served x k = if is_number k then m.served x k else x
+  after_served x k = if is_lab_number k then m.served x k else x
+
+  -- the numbers in their order, of a rule whose places are 0 to 63
+  abbrev pub order : T → List ℕ
+  order x = in_order (m.place x)
 
 -- The laws, of whatever a turn rule holds.
 pub record Fair {T : Type 0} (m : Turns T) : Type 0 where

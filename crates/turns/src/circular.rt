@@ -1,11 +1,12 @@
 ghost use Rattle.std.specs.Prelude.{◌≡◌, if◌then◌else◌};
-ghost use Rattle.turns.specs.Orders.{is_number, greatest_number, from_to};
-ghost use Rattle.turns.specs.Turns.{after_served};
-ghost use Rattle.turns.specs.Circular.{circular, place, order, ending_with, round_to};
+ghost use Rattle.measures.specs.Limits.{is_lab_number, greatest_lab_number};
+ghost use Rattle.turns.specs.Orders.{from_to};
+ghost use Rattle.turns.specs.Turns.{after_served, order};
+ghost use Rattle.turns.specs.Circular.{circular, place, ending_with, round_to};
 ghost use Rattle.turns.specs.CircularIsFair.{circular_fair};
 
-use crate::rule::{GREATEST_NUMBER, TurnRule};
-use measures::limits::MOST_LABS;
+use crate::rule::TurnRule;
+use measures::limits::{GREATEST_LAB_NUMBER, is_lab_number};
 
 // The turns go round, and whoever was served last comes last.
 #[derive(Clone, Copy, PartialEq, Eq, Debug)]
@@ -17,11 +18,11 @@ pub struct CircularTurns {
 impl CircularTurns {
     #[tactic(auto, using(crate::proofs::CircularOrder::order_begins))]
     pub fn new() -> CircularTurns
-        ensures value { result ≡ ending_with greatest_number }
-        ensures order { order result ≡ from_to 0 greatest_number }
+        ensures value { result ≡ ending_with greatest_lab_number }
+        ensures order { order circular result ≡ from_to 0 greatest_lab_number }
     {
         CircularTurns {
-            ends_with: GREATEST_NUMBER,
+            ends_with: GREATEST_LAB_NUMBER,
         }
     }
 
@@ -31,7 +32,7 @@ impl CircularTurns {
         if n > self.ends_with {
             n - self.ends_with - 1
         } else {
-            n + GREATEST_NUMBER.saturating_sub(self.ends_with)
+            n + GREATEST_LAB_NUMBER.saturating_sub(self.ends_with)
         }
     }
 }
@@ -42,15 +43,15 @@ impl TurnRule for CircularTurns {
     ghost fair = { circular_fair };
 
     fn ahead(&self, a: u64, b: u64) -> bool {
-        a.max(b) < MOST_LABS && self.place(a) < self.place(b)
+        is_lab_number(a) && is_lab_number(b) && self.place(a) < self.place(b)
     }
 
     #[tactic(auto, using(crate::proofs::CircularOrder::order_goes_round))]
     fn served(&mut self, k: u64)
         ensures rule { self.new ≡ after_served circular self.old k }
-        ensures order { order self.new ≡ (if is_number k then round_to k else order self.old) }
+        ensures order { order circular self.new ≡ (if is_lab_number k then round_to k else order circular self.old) }
     {
-        if k < MOST_LABS {
+        if is_lab_number(k) {
             self.ends_with = k;
         }
     }

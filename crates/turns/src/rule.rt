@@ -1,12 +1,7 @@
 ghost use Rattle.std.specs.Prelude.{◌≡◌};
 ghost use Rattle.turns.specs.Turns.{Turns, Fair, is_ahead, after_served};
 
-use measures::limits::MOST_LABS;
-
-// Numbers are those that labs may have.
-pub(crate) const GREATEST_NUMBER: u64 = MOST_LABS - 1;
-
-// An order of the numbers 0 to 63, in which labs take turns.
+// An order of the numbers that labs may have, 0 to 63, in which labs take turns.
 pub trait TurnRule {
     ghost turns: { Turns Self };
 

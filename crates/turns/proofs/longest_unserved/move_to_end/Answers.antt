@@ -9,4 +9,4 @@ loop-place-preserved c =
     let l = c.loop-place in
     let within = c.loop-place-test.true in
     let read = get_or_default l.places l.place-index 0 (slice_index l.places l.place-index) (omega (arith, l.auto.places)) in
-    rw c.moved.ensures (map_over_more (moved c.args.leaves) c.args.places.now l.places l.place-index _ within l.invariant read)
+    rw c.moved.ensures (map_over_more (moved c.args.vacated) c.args.places.now l.places l.place-index _ within l.invariant read)
