@@ -1,5 +1,5 @@
-ghost use Rattle.std.specs.Prelude.{◌≡◌, if◌then◌else◌};
-ghost use Rattle.measures.specs.Limits.{is_lab_number, greatest_lab_number};
+ghost use Rattle.std.specs.Prelude.{◌≡◌, ◌<◌};
+ghost use Rattle.measures.specs.Limits.{most_labs, greatest_lab_number};
 ghost use Rattle.turns.specs.Orders.{from_to};
 ghost use Rattle.turns.specs.Turns.{after_served, order};
 ghost use Rattle.turns.specs.Circular.{circular, place, ending_with, round_to};
@@ -49,7 +49,7 @@ impl TurnRule for CircularTurns {
     #[tactic(auto, using(crate::proofs::CircularOrder::order_goes_round))]
     fn served(&mut self, k: u64)
         ensures rule { self.new ≡ after_served circular self.old k }
-        ensures order { order circular self.new ≡ (if is_lab_number k then round_to k else order circular self.old) }
+        ensures order { k < most_labs → order circular self.new ≡ round_to k }
     {
         if is_lab_number(k) {
             self.ends_with = k;

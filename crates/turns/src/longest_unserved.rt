@@ -1,5 +1,5 @@
-ghost use Rattle.std.specs.Prelude.{◌≡◌, ◌<◌, length, map, if◌then◌else◌};
-ghost use Rattle.measures.specs.Limits.{most_labs, is_lab_number, greatest_lab_number};
+ghost use Rattle.std.specs.Prelude.{◌≡◌, ◌<◌, length, map};
+ghost use Rattle.measures.specs.Limits.{most_labs, greatest_lab_number};
 ghost use Rattle.turns.specs.Orders.{from_to};
 ghost use Rattle.turns.specs.Turns.{after_served, order};
 ghost use Rattle.turns.specs.Places.{own, moved, Within, Apart};
@@ -91,7 +91,7 @@ impl TurnRule for LongestUnservedTurns {
 
     fn served(&mut self, k: u64)
         ensures rule { self.new ≡ after_served longest_unserved self.old k }
-        ensures order { order longest_unserved self.new ≡ (if is_lab_number k then with_last k (order longest_unserved self.old) else order longest_unserved self.old) }
+        ensures order { k < most_labs → order longest_unserved self.new ≡ with_last k (order longest_unserved self.old) }
     {
         if is_lab_number(k) {
             self.put_last(k);
