@@ -10,9 +10,11 @@ use Rattle.turns.specs.declared.circular.CircularTurns.{CircularTurns}
 abbrev pub place : CircularTurns → ℕ → ℕ
 place x n = if nat_lt x.ends_with n then n - (x.ends_with + 1) else n + (greatest_lab_number - x.ends_with)
 
+-- the order that ends with k
 abbrev pub ending_with : ℕ → CircularTurns
 ending_with k = record { ends_with = k }
 
+-- whoever is served ends the order, whatever it was
 abbrev pub circular : Turns CircularTurns
 circular = record { place = place; served = λ x k. ending_with k }
 

@@ -6,6 +6,7 @@ use Rattle.turns.specs.Places.{own, moved}
 use Rattle.turns.specs.PlacesStay.{whole_own, within_own, apart_own, whole_moved, within_moved, apart_moved}
 use Rattle.turns.specs.declared.longest_unserved.LongestUnservedTurns.{LongestUnservedTurns}
 
+-- the place of each number is stored
 abbrev pub place : LongestUnservedTurns → ℕ → ℕ
 place x n = slice_index x.places n
 
@@ -13,6 +14,7 @@ place x n = slice_index x.places n
 abbrev pub begun : LongestUnservedTurns
 begun = record { places = own; whole = whole_own; within = within_own; apart = apart_own }
 
+-- k leaves its place and goes to the end, and the places stay those of an order
 abbrev pub served : LongestUnservedTurns → ℕ → LongestUnservedTurns
 served x k = let c = place x k in record {
   places = map (moved c) x.places;

@@ -1,4 +1,4 @@
--- The places of an order are those of an order before anyone was served, and after each serving.
+-- Places stay those of an order: they are so before anyone was served, and after each serving.
 use Rattle.std.specs.Prelude.{◌≡◌, ℕ, ◌<◌, List, length, map, slice_index, refl}
 use Rattle.std.proofs.Common.{arith, ◌∙◌, sym}
 use Rattle.std.proofs.lemmas.List.{get_or-map, length-map}

@@ -11,7 +11,7 @@ use measures::limits::{GREATEST_LAB_NUMBER, is_lab_number};
 // The turns go round, and whoever was served last comes last.
 #[derive(Clone, Copy, PartialEq, Eq, Debug)]
 pub struct CircularTurns {
-    // the number that ends the order: the numbers have an order whatever stands here
+    // the number that ends the order; any number stored here gives an order
     ends_with: u64,
 }
 

@@ -67,6 +67,7 @@ fn move_to_end(places: &mut [u8], vacated: u8)
     }
 }
 
+// Where a place moves to then.
 fn moved(vacated: u8, place: u8) -> u8
     ensures { result ≡ moved vacated place }
 {
