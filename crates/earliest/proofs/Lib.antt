@@ -1,0 +1,5 @@
+pub mod First
+pub mod Heaps
+pub mod InOrder
+pub mod Used
+pub mod Weak

@@ -1,0 +1,4 @@
+pub mod Heap
+pub mod HeapOrder
+pub mod Order
+pub mod Sorted
