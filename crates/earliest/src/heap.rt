@@ -8,7 +8,7 @@ use crate::order::StrictTotalOrder;
 use crate::places::{put_in, take_out};
 
 // The earliest-first container. Its elements lie in the first places of a slice that it is lent, and places past them have no meaning.
-// What it says of their order holds where they lie as a heap.
+// That no other is before the one which comes first holds where they lie as a heap.
 #[derive(Drop)]
 pub struct Heap<'a, T> {
     places: &'a mut [T],
@@ -44,7 +44,7 @@ impl<'a, T: StrictTotalOrder> Heap<'a, T> {
         self.used.min(self.places.len())
     }
 
-    // The element at the first place, which no other is before.
+    // The element at the first place. In a heap no other is before it.
     #[tactic(auto, using(crate::proofs::Used::value, crate::proofs::First::earliest_is, crate::proofs::First::first_in_order))]
     pub fn first(&self) -> Option<T>
         ensures value { result ≡ slice_get (elements self.now) 0 }

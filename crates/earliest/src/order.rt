@@ -1,7 +1,7 @@
 ghost use Rattle.std.specs.Prelude.{◌≡◌, Bool};
 ghost use Rattle.earliest.specs.Order.{IsStrictTotalOrder};
 
-// Elements of which, of any two that differ, one comes before the other.
+// Elements in a strict total order: of any two that differ, exactly one is before the other.
 pub trait StrictTotalOrder: Copy {
     ghost before: { Self → Self → Bool };
 

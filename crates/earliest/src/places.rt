@@ -31,7 +31,7 @@ pub(crate) fn take_out<T: StrictTotalOrder>(places: &mut [T], used: usize, place
     gone
 }
 
-// Moves the element at one of the first `used` places to where it may stand among them.
+// Moves the element at a place to where it may stand among the first `used`. Where the place is past them, nothing moves.
 fn settle<T: StrictTotalOrder>(places: &mut [T], used: usize, from: usize)
     requires { used ≤ length places.old }
     ensures len { length places.new ≡ length places.old }

@@ -6,7 +6,7 @@ ghost use Rattle.earliest_tests.specs.Dated.{dated_before};
 use crate::dated::Dated;
 use earliest::heap::Heap;
 
-// Dated elements in memory of their own. Each call makes a container over it, and leaves its elements to the next.
+// Dated elements in memory of their own. To put or to take makes a container over it, which leaves its elements to the next.
 #[derive(Drop)]
 pub struct Kept {
     places: [Dated; 40],

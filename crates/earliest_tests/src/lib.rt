@@ -4,7 +4,7 @@
 mod dated;
 #[cfg(test)]
 mod hundreds;
-mod in_order;
+pub mod in_order;
 mod kept;
 #[cfg(test)]
 mod mixed;
