@@ -17,7 +17,7 @@ pub struct Kept {
 }
 
 impl Kept {
-    ghost use Rattle.earliest_tests.specs.Kept.{queue};
+    ghost use Rattle.earliest_tests.specs.Kept.{held, queue};
 
     #[tactic(auto, unfolding(earliest::specs::HeapOrder::IsHeap, earliest::specs::Sorted::sorted))]
     pub fn new() -> Kept
@@ -30,7 +30,7 @@ impl Kept {
     }
 
     pub fn put(&mut self, x: Dated) -> bool
-        ensures answer { result ≡ nat_lt self.old.used 40 }
+        ensures answer { result ≡ nat_lt (held self.old) 40 }
         ensures queue { queue self.new ≡ (if result then inserted dated_before x (queue self.old) else queue self.old) }
     {
         if self.used == 40 {
