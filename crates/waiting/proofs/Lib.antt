@@ -1,0 +1,4 @@
+pub mod Labs
+pub mod Numbered
+pub mod Sorting
+pub mod Written

@@ -1,0 +1,4 @@
+pub mod Keys
+pub mod Places
+pub mod Queues
+pub mod Tickets
