@@ -1,4 +1,4 @@
--- The queues of all labs.
+-- The queues of all labs, and what holds of every ticket of a queue.
 use Rattle.std.proofs.Common.{◌≡◌, ℕ, ◌+◌, ◌<◌, ◌≤◌, Bool, true, false, nat_eq, List, [], ◌∷◌, ◌++◌, length, take, drop, slice_index_or, slice_set, Option, Some, None, IsSome, if◌then◌else◌, All, refl, sym, ap, subst, ◌∙◌, arith, ⊎_elim, true≢false}
 use Rattle.std.specs.List.{flat_map}
 use Rattle.std.specs.Option.{option_or, option_map_or}
@@ -16,23 +16,24 @@ use Rattle.waiting.specs.Queues.{none_waiting, queue_of, with_queue, IsInOrder, 
 use Rattle.waiting.specs.declared.ticket.Ticket.{Ticket}
 use Rattle.waiting.proofs.Numbered.{holds_of_numbered}
 
+-- what holds of every ticket of a queue, and of one that comes, holds of every ticket then
+pub All-inserted : (P : Ticket → Type 0) (t : Ticket) (q : List Ticket) → P t → All P q → All P (inserted ticket_before t q)
+All-inserted P t q first rest = All-permutation P (t ∷ q) _ (inserted_same ticket_before t q) (All-cons P t q first rest)
+
+-- and of those that stay
+pub All-without_numbered : (P : Ticket → Type 0) (n : ℕ) (q : List Ticket) → All P q → All P (without_numbered n q)
+unfolding without_numbered
+All-without_numbered P n [] all = all
+All-without_numbered P n (u ∷ us) all =
+    let later = All-tail P u us all in
+    ⊎_elim
+    (λ yes. rw yes later)
+    (λ no. rw no (All-cons P u (without_numbered n us) (All-head P u us all) (All-without_numbered P n us later)))
+    (cases_Bool (nat_eq u.number n))
+
 -- every ticket of q is lab k's
 abbrev Own : ℕ → List Ticket → Type 0
 Own k q = All (λ t. t.lab ≡ k) q
-
-Own-inserted : (k : ℕ) (t : Ticket) (q : List Ticket) → t.lab ≡ k → Own k q → Own k (inserted ticket_before t q)
-Own-inserted k t q first rest = All-permutation (λ u. u.lab ≡ k) (t ∷ q) _ (inserted_same ticket_before t q) (All-cons (λ u. u.lab ≡ k) t q first rest)
-
-Own-without_numbered : (k n : ℕ) (q : List Ticket) → Own k q → Own k (without_numbered n q)
-unfolding without_numbered
-Own-without_numbered k n [] own = own
-Own-without_numbered k n (u ∷ us) own =
-    let P : Ticket → Type 0 = λ v. v.lab ≡ k in
-    let later = All-tail P u us own in
-    ⊎_elim
-    (λ yes. rw yes later)
-    (λ no. rw no (All-cons P u (without_numbered n us) (All-head P u us own) (Own-without_numbered k n us later)))
-    (cases_Bool (nat_eq u.number n))
 
 pub queue_of-none_waiting : (k : ℕ) → queue_of none_waiting k ≡ []
 unfolding none_waiting
@@ -67,14 +68,14 @@ module _ (qs : List (List Ticket)) (k : ℕ) (old : List Ticket) (o : AreOwn qs)
   }
 
   pub own_put : (t : Ticket) (new : List Ticket) (r : Bool) → t.lab ≡ k → new ≡ (if r then inserted ticket_before t old else old) → AreOwn (slice_set qs k new)
-  own_put t new true of_k put = own_set new (subst (Own k) (sym put) (Own-inserted k t old of_k own_old))
+  own_put t new true of_k put = own_set new (subst (Own k) (sym put) (All-inserted (λ u. u.lab ≡ k) t old of_k own_old))
   own_put t new false of_k put = own_set new (subst (Own k) (sym put) own_old)
 
   pub own_take : (new : List Ticket) → new ≡ drop 1 old → AreOwn (slice_set qs k new)
   own_take new taken = own_set new (subst (Own k) (sym taken) (All-drop (λ t. t.lab ≡ k) 1 old own_old))
 
   pub own_withdraw : (n : ℕ) (new : List Ticket) → new ≡ without_numbered n old → AreOwn (slice_set qs k new)
-  own_withdraw n new gone = own_set new (subst (Own k) (sym gone) (Own-without_numbered k n old own_old))
+  own_withdraw n new gone = own_set new (subst (Own k) (sym gone) (All-without_numbered (λ t. t.lab ≡ k) n old own_old))
 
   -- r is the ticket that left, and is lab k's
   left : (n : ℕ) (new : List Ticket) (r : Option Ticket) → ticket_numbered n (queue_of qs k) ≡ r → IsSome r → new ≡ without_numbered n old → slice_set qs k new ≡ option_map_or (λ t. with_queue qs t.lab (without_numbered n (queue_of qs t.lab))) r qs

@@ -1,0 +1,7 @@
+// The import gate: when a lab's next import begins.
+#![tactic(auto)]
+
+mod calls;
+pub mod gate;
+mod rows;
+mod standing;

@@ -1,0 +1,12 @@
+pub mod Lists
+pub mod Counting
+pub mod Ledgers
+pub mod Curators
+pub mod Leading
+pub mod Filings
+pub mod Overtaking
+pub mod Resting
+pub mod Effects
+pub mod Agreement
+pub mod Tracing
+pub mod Keeping
