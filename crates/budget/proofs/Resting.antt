@@ -1,6 +1,6 @@
 -- What the sentences say of a row that rests for any number of ticks, and of the imports that come next on it.
-use Rattle.std.proofs.Common.{◌≡◌, ℕ, zero, suc, ◌+◌, ◌-◌, ◌*◌, ◌/◌, ◌%◌, ◌<◌, ◌≤◌, true, false, List, [], ◌∷◌, sym, refl, ◌∙◌, subst, mul-le-mul_right, suc-mul, div-add-mod', zero-mul, arith}
-use Rattle.std.proofs.lemmas.Bool.{eq-eqb, ne_eqb}
+use Rattle.std.proofs.Common.{◌≡◌, ℕ, zero, suc, ◌+◌, ◌-◌, ◌*◌, ◌/◌, ◌%◌, ◌<◌, ◌≤◌, true, false, List, [], ◌∷◌, sym, refl, ap, ◌∙◌, subst, ⊎_elim, mul-le-mul_right, suc-mul, div-add-mod', zero-mul, arith}
+use Rattle.std.proofs.lemmas.Bool.{cases_lt, eq-eqb, ne_eqb}
 use Rattle.measures.specs.Limits.{last}
 use Rattle.measures.proofs.Quotients.{up_div_self}
 use Rattle.budget.specs.Meaning.{Meaning, Sentences}
@@ -11,6 +11,20 @@ module _ {R : Type 0} {m : Meaning R} (s : Sentences m) where
   counts_wake x zero = omega (arith, zero-mul last)
   counts_wake x (suc n) =
       s.rest_wake (rest_counts m x n) last (omega arith) ∙ omega (arith, counts_wake x n, suc-mul n last)
+
+  -- up to the last tick one count of rest is enough
+  pub one_rest : (x : R) (d : ℕ) → d ≤ last → rest_long m x d ≡ m.rested x d
+  one_rest x d low = ⊎_elim
+      (λ below.
+      let counts : d / last ≡ 0 = omega arith in
+      let left : d % last ≡ d = omega arith in
+      (λ i. m.rested (rest_counts m x (counts i)) (left i)))
+      (λ not_below.
+      let all : last ≡ d = omega arith in
+      let counts : d / last ≡ 1 = omega arith in
+      let left : d % last ≡ 0 = omega arith in
+      (λ i. m.rested (rest_counts m x (counts i)) (left i)) ∙ s.rest_rest x last 0 (omega arith) ∙ ap (m.rested x) all)
+      (cases_lt d last)
 
   pub long_wake : (x : R) (d : ℕ) → m.wake (rest_long m x d) ≡ m.wake x - d
   long_wake x d =

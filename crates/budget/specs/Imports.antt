@@ -1,12 +1,12 @@
 -- What comes next on one row alone: imports in order, each begun as soon as the row is able and lasting as declared.
-use Rattle.std.specs.Prelude.{◌≡◌, ℕ, zero, suc, ◌+◌, ◌-◌, ◌/◌, ◌%◌, ◌<◌, ◌≤◌, Bool, true, false, not, List, [], ◌∷◌, ◌++◌, length, drop, Result, nat_lt}
-use Rattle.std.specs.List.{list_all}
-use Rattle.measures.specs.Limits.{last, most_waiting, is_tick, is_length}
-use Rattle.measures.specs.Refusals.{granted_unless}
-use Rattle.measures.specs.declared.refusal.Refusal.{Refusal}
-use Rattle.measures.specs.declared.refusal.Refusal.TheVariants.{TickOutOfRange, LengthOutOfRange, QueueFull, ListTooShort}
+use Rattle.std.specs.Prelude.{◌≡◌, ℕ, zero, suc, ◌+◌, ◌-◌, ◌/◌, ◌%◌, ◌<◌, ◌≤◌, true, false, List, [], ◌∷◌, ◌++◌, length, drop}
+use Rattle.measures.specs.Limits.{last}
 use Rattle.budget.specs.Meaning.{Meaning}
-use Rattle.budget.specs.declared.imports.Slot.{Slot}
+
+-- the ticks from start to end, for which an import is to hold the lock
+pub record Slot : Type 0 where
+  pub start : ℕ
+  pub end : ℕ
 
 module _ {R : Type 0} (row : Meaning R) where
   -- n counts of rest, each of the last tick
@@ -45,20 +45,6 @@ module _ {R : Type 0} (row : Meaning R) where
   AllSoonest x t [] (s ∷ ss) = ⊥
   AllSoonest x t (c ∷ cs) [] = ⊥
   AllSoonest x t (c ∷ cs) (s ∷ ss) = Soonest x t c s × AllSoonest (row.ended (rest_long x (s.start - t)) c) s.end cs ss
-
-abbrev pub are_lengths : List ℕ → Bool
-are_lengths cs = list_all is_length cs
-
--- whether a lab with no ticket waiting can file imports of these lengths one after another, or the first refusal
-abbrev pub fileable : List ℕ → Result (Unit {0}) Refusal
-fileable cs = granted_unless ((not (are_lengths cs), LengthOutOfRange) ∷ (nat_lt most_waiting (length cs), QueueFull) ∷ []) tt
-
--- whether imports of these lengths can be scheduled from tick t on, in a list of so many places, or the first refusal
-abbrev pub schedulable : ℕ → List ℕ → ℕ → Result (Unit {0}) Refusal
-schedulable t cs places =
-    granted_unless
-    ((not (is_tick t), TickOutOfRange) ∷ (not (are_lengths cs), LengthOutOfRange) ∷ (nat_lt most_waiting (length cs), QueueFull) ∷ (nat_lt places (length cs), ListTooShort) ∷ [])
-    tt
 
 -- a list whose first places are written over
 abbrev pub written_over : {A : Type 0} → List A → List A → List A

@@ -7,11 +7,13 @@ use history::turn::Turn;
 use measures::limits::LAST_TICK;
 use measures::refusal::Refusal;
 use mixed::MixedRow;
+use outlook::entry::Entry;
 use server::ServerRow;
 use spaced::SpacedRow;
 use std::fmt;
 use turns::circular::CircularTurns;
 use waiting::queue_order::QueueOrder;
+use waiting::ticket::ROOM;
 
 const NO_DUE_DATE: u64 = LAST_TICK;
 
@@ -23,6 +25,8 @@ enum Call {
     Withdraw(u64),
     Begin,
     End,
+    // lab
+    Outlook(u64),
 }
 
 // So many ticks, written as words.
@@ -50,7 +54,34 @@ impl fmt::Display for Call {
             Call::Withdraw(number) => write!(f, "ticket {number} is withdrawn"),
             Call::Begin => write!(f, "begin"),
             Call::End => write!(f, "end"),
+            Call::Outlook(lab) => write!(f, "outlook of lab {lab}"),
         }
+    }
+}
+
+// The entries of an outlook, in the first places.
+#[derive(Clone, Copy)]
+struct Listed {
+    places: [Entry; ROOM],
+    count: u64,
+}
+
+impl fmt::Display for Listed {
+    fn fmt<W: fmt::Write>(&self, f: &mut fmt::Formatter<W>) -> fmt::Result {
+        if self.count == 0 {
+            return write!(f, "no ticket waits");
+        }
+        for (i, entry) in self.places.iter().take(self.count as usize).enumerate() {
+            if i > 0 {
+                write!(f, ", ")?;
+            }
+            write!(
+                f,
+                "ticket {} from {} to {}",
+                entry.number, entry.start, entry.end
+            )?;
+        }
+        Ok(())
     }
 }
 
@@ -61,6 +92,7 @@ enum Answer {
     Told(Turn),
     // number of a ticket, ticks held, response time
     Ended(u64, u64, u64),
+    Listed(Listed),
 }
 
 impl fmt::Display for Answer {
@@ -73,6 +105,7 @@ impl fmt::Display for Answer {
                 write!(f, "ticket {number} held the lock for {}, ", Ticks(*held))?;
                 write!(f, "{response} after it was filed")
             }
+            Answer::Listed(list) => write!(f, "{list}"),
         }
     }
 }
@@ -89,9 +122,11 @@ fn write_turn<W: fmt::Write>(f: &mut fmt::Formatter<W>, turn: Turn) -> fmt::Resu
     }
 }
 
-const DAY: [(u64, Call); 24] = [
+// An outlook is always from the clock on.
+const DAY: [(u64, Call); 30] = [
     // a lab begins as soon as its row is able and its turn has come
     (0, Call::File(0, 3, NO_DUE_DATE)),
+    (0, Call::Outlook(0)),
     (0, Call::Begin),
     (1, Call::File(1, 2, NO_DUE_DATE)),
     (1, Call::Begin),
@@ -100,7 +135,12 @@ const DAY: [(u64, Call); 24] = [
     (2, Call::File(2, 1, 20)),
     (2, Call::File(1, 4, NO_DUE_DATE)),
     (2, Call::Withdraw(5)),
+    (2, Call::Outlook(2)),
     (3, Call::End),
+    // what is foretold of each lab, if it is left alone
+    (3, Call::Outlook(0)),
+    (3, Call::Outlook(1)),
+    (3, Call::Outlook(2)),
     (3, Call::Begin),
     // a run that takes longer than declared, and one that takes less
     (5, Call::Begin),
@@ -113,6 +153,7 @@ const DAY: [(u64, Call); 24] = [
     (11, Call::Withdraw(5)),
     (11, Call::File(3, 1, NO_DUE_DATE)),
     (11, Call::File(1, 0, NO_DUE_DATE)),
+    (11, Call::Outlook(3)),
     (10, Call::Begin),
     // the last import, and then nothing is left
     (15, Call::Begin),
@@ -134,6 +175,11 @@ fn ask(
         Call::End => {
             let (number, held, response) = gate.end(rows, tick)?;
             Answer::Ended(number, held, response)
+        }
+        Call::Outlook(lab) => {
+            let mut places = [Entry::default(); ROOM];
+            let count = gate.outlook(rows, lab, &mut places)?;
+            Answer::Listed(Listed { places, count })
         }
     };
     Ok(answer)

@@ -1,11 +1,17 @@
-// Reads server rows from standard input, a line for each: rate, ceiling, threshold and the lengths of imports filed at tick 0. Prints
-// for each its rate and the starts and ends of its imports, to be held against figures that were computed by other means.
+// Reads server rows from standard input, a line for each: a tick, rate, ceiling and threshold, and the lengths of imports that the lab with
+// this row, which is new at tick 0, files at that tick. Prints the tick, the rate, and the starts and ends that a gate foretells, to be held
+// against figures that were computed by other means.
 #![tactic(auto)]
 
 use anyhow::anyhow;
-use budget::imports::{Slot, schedule};
+use gate::gate::Gate;
+use measures::limits::LAST_TICK;
+use outlook::entry::Entry;
 use server::ServerRow;
 use std::alloc::Global;
+use turns::circular::CircularTurns;
+use waiting::queue_order::QueueOrder;
+use waiting::ticket::ROOM;
 
 fn read_numbers(heap: Global, line: &str) -> anyhow::Result<Vec<u64>> {
     line.split(' ')
@@ -15,21 +21,32 @@ fn read_numbers(heap: Global, line: &str) -> anyhow::Result<Vec<u64>> {
 
 fn answer(rt: &HostRuntime, numbers: &[u64]) -> anyhow::Result<()> {
     match numbers {
-        [rate, ceiling, threshold, lengths @ ..] if !lengths.is_empty() => {
-            let row = ServerRow::new(*rate, *ceiling, *threshold).map_err(|_| anyhow!(
-                "no such row"
-            ))?;
-            print_schedule(rt, &row, lengths)
+        [tick, rate, ceiling, threshold, lengths @ ..] => {
+            let row = ServerRow::new(*rate, *ceiling, *threshold)?;
+            print!(rt; "{tick} {rate}:")?;
+            print_outlook(rt, row, *tick, lengths)
         }
         _ => Err(anyhow!("a line has fewer than four numbers")),
     }
 }
 
-fn print_schedule(rt: &HostRuntime, row: &ServerRow, lengths: &[u64]) -> anyhow::Result<()> {
-    let mut slots = vec![in rt.alloc(); Slot::default(); lengths.len()]?;
-    schedule(row, 0, lengths, slots.as_mut_slice()).map_err(|_| anyhow!("no schedule"))?;
-    print!(rt; "{}:", row.rate)?;
-    for Slot { start, end } in slots.iter() {
+fn print_outlook(
+    rt: &HostRuntime,
+    row: ServerRow,
+    tick: u64,
+    lengths: &[u64],
+) -> anyhow::Result<()> {
+    let mut rows = [ServerRow::new(1, 0, 0)?];
+    let mut gate = Gate::new(CircularTurns::new());
+    gate.open(&mut rows, QueueOrder::Arrival)?;
+    // only now, since a gate opens over no rate above 900
+    rows[0] = row;
+    for length in lengths {
+        gate.file(&mut rows, tick, 0, *length, LAST_TICK)?;
+    }
+    let mut list = [Entry::default(); ROOM];
+    let count = gate.outlook(&rows, 0, &mut list)?;
+    for Entry { start, end, .. } in list.iter().take(count as usize) {
         print!(rt; " {start} {end}")?;
     }
     println!(rt; "")?;

@@ -1,3 +1,4 @@
 mod Asked
 mod Digits
 mod Held
+mod Listed

@@ -1,11 +1,14 @@
 -- What a forecast says of one lab's imports, filed at tick 0 and begun as soon as its row is able.
-use Rattle.std.specs.Prelude.{◌≡◌, ℕ, ◌+◌, ◌-◌, ◌&&◌, List, [], ◌∷◌, ◌++◌, length, drop, Ok, Err, vec_items, Result, Vec, if◌then◌else◌, nat_lt, slice_index}
+use Rattle.std.specs.Prelude.{◌≡◌, ℕ, ◌+◌, ◌-◌, ◌&&◌, List, [], ◌∷◌, ◌++◌, map, length, drop, Ok, Err, vec_items, Result, Vec, if◌then◌else◌, nat_lt, slice_index}
+use Rattle.std.specs.List.{enumerate_from}
 use Rattle.std.specs.declared.alloc.Global.{Global}
-use Rattle.measures.specs.Limits.{is_tick}
+use Rattle.measures.specs.Limits.{last, is_tick}
 use Rattle.measures.specs.declared.refusal.Refusal.{Refusal}
 use Rattle.budget.specs.Meaning.{Meaning}
-use Rattle.budget.specs.Imports.{rest_long, schedule, fileable}
-use Rattle.budget.specs.declared.imports.Slot.{Slot}
+use Rattle.budget.specs.Imports.{rest_long}
+use Rattle.waiting.specs.declared.ticket.Ticket.{Ticket}
+use Rattle.outlook.specs.Outlooks.{outlook, listable}
+use Rattle.outlook.specs.declared.entry.Entry.{Entry}
 use Rattle.server.specs.Row.{server, made as server_made}
 use Rattle.spaced.specs.Row.{spaced, made as spaced_made}
 use Rattle.forecast_lines.specs.declared.Line.{Line}
@@ -21,44 +24,58 @@ abbrev pub ◌>>=◌ : {A B E : Type 0} → Result A E → (A → Result B E) �
 ◌>>=◌ (Ok a) f = f a
 ◌>>=◌ (Err e) f = Err e
 
+-- the ticket that lab 0 is given for an import of c ticks, filed at tick 0 with no due date, where tickets wait in the order of arrival
+abbrev pub filed_ticket : ℕ → ℕ → Ticket
+filed_ticket number c = record { key = 0; number = number; lab = 0; filed = 0; length = c; due = last }
+
+-- the tickets that a lab with no ticket waiting is given for imports of these lengths, filed one after another: their numbers count from 1
+abbrev pub filed : List ℕ → List Ticket
+filed cs = map (λ p. filed_ticket (p.0 + 1) p.1) (enumerate_from 0 cs)
+
 -- the ticks that an import holds the lock
-abbrev pub held : Slot → ℕ
-held s = s.end - s.start
+abbrev pub held : Entry → ℕ
+held e = e.end - e.start
 
 -- a line for each import: its number, start, end, and the response time since the filing at tick 0
-abbrev pub imports : ℕ → List Slot → List Line
-imports k [] = []
-imports k (s ∷ ss) = Import k s.start s.end s.end ∷ imports (k + 1) ss
+abbrev pub imports : List Entry → List Line
+imports [] = []
+imports (e ∷ es) = Import e.number e.start e.end e.end ∷ imports es
 
 module _ {R : Type 0} (row : Meaning R) where
-  -- the row at the start of a slot, if it has rested since tick t
-  abbrev pub at_start : R → ℕ → Slot → R
-  at_start x t s = rest_long row x (s.start - t)
+  -- the row at the start of an import, if it has rested since tick t
+  abbrev pub at_start : R → ℕ → Entry → R
+  at_start x t e = rest_long row x (e.start - t)
 
-  -- the row at the end of the slot, once it has heard of the run; a row that answers no stays as it is
-  abbrev pub after_step : R → ℕ → Slot → R
-  after_step x t s = if is_tick (held s) && row.able (at_start x t s) then row.ended (at_start x t s) (held s) else at_start x t s
+  -- the row at the end of the import, once it has heard of the run; a row that answers no stays as it is
+  abbrev pub after_step : R → ℕ → Entry → R
+  after_step x t e = if is_tick (held e) && row.able (at_start x t e) then row.ended (at_start x t e) (held e) else at_start x t e
 
-  -- import k begins and ends
-  abbrev pub step_lines : R → ℕ → ℕ → Slot → List Line
-  step_lines x t k s = Begin s.start k (row.level (at_start x t s)) ∷ End s.end k (held s) (row.level (after_step x t s)) (row.wake (after_step x t s)) ∷ []
+  -- an import begins and ends
+  abbrev pub step_lines : R → ℕ → Entry → List Line
+  step_lines x t e =
+      Begin e.start e.number (row.level (at_start x t e)) ∷ End e.end e.number (held e) (row.level (after_step x t e)) (row.wake (after_step x t e)) ∷ []
 
-  -- the imports from number k on, from tick t on, begin and end in their slots
-  abbrev pub steps : R → ℕ → ℕ → List Slot → List Line
-  steps x t k [] = []
-  steps x t k (s ∷ ss) = step_lines x t k s ++ steps (after_step x t s) s.end (k + 1) ss
+  -- the imports of these entries begin and end, from tick t on
+  abbrev pub steps : R → ℕ → List Entry → List Line
+  steps x t [] = []
+  steps x t (e ∷ es) = step_lines x t e ++ steps (after_step x t e) e.end es
 
-  -- all that happens in these slots from tick 0 on
-  unfoldable pub told : R → List Slot → List Line
-  told x ss = Terms (row.rate x) (row.ceiling x) (row.threshold x) ∷ Opening (row.level x) (row.wake x) ∷ (steps x 0 1 ss ++ imports 1 ss)
+  -- all that happens to the imports of these entries from tick 0 on
+  unfoldable pub told : R → List Entry → List Line
+  told x es = Terms (row.rate x) (row.ceiling x) (row.threshold x) ∷ Opening (row.level x) (row.wake x) ∷ (steps x 0 es ++ imports es)
 
-abbrev pub or_fault : Result (List Line) Refusal → Result (List Line) Fault
-or_fault (Ok lines) = Ok lines
+-- a refusal is the fault of a forecast
+abbrev pub or_fault : {A : Type 0} → Result A Refusal → Result A Fault
+or_fault (Ok a) = Ok a
 or_fault (Err r) = Err (Refused r)
+
+-- the entries of imports of these lengths, filed at tick 0 and listed on the row x, or the first refusal
+abbrev pub listed : {R : Type 0} → Meaning R → R → List ℕ → Result (List Entry) Fault
+listed m x cs = or_fault (listable 0 (filed cs) (length cs) >>= λ _. Ok (outlook m x 0 (filed cs)))
 
 -- imports of these lengths are filed at tick 0 on a row, if it is made: what then happens, or the first refusal
 abbrev pub on_row : {R : Type 0} → Meaning R → Result R Refusal → List ℕ → Result (List Line) Fault
-on_row m row cs = or_fault (row >>= λ x. fileable cs >>= λ _. Ok (told m x (schedule m x 0 cs)))
+on_row m row cs = or_fault row >>= λ x. listed m x cs >>= λ es. Ok (told m x es)
 
 -- what the terms of a row of this rule and one length or more ask for: of a server row a rate, a ceiling and a threshold, of a spaced
 -- row a rate

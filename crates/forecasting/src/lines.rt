@@ -1,13 +1,17 @@
 ghost use Rattle.std.specs.Prelude.{◌≡◌, ◌++◌, IfOk, Ok, OnOk};
-ghost use Rattle.forecasting.specs.Lines.{step_lines, after_step, steps, imports as import_lines, told, Answers, on_row, foretold};
+ghost use Rattle.forecasting.specs.Lines.{step_lines, after_step, steps, imports as import_lines, told, filed, listed, Answers, on_row, foretold};
 
-use budget::imports::{RowAt, Slot, check_lengths, rest_long, schedule};
+use budget::imports::{RowAt, rest_long};
 use budget::row::{BudgetRow, LevelRow};
 use forecast_lines::{Fault, Line};
+use measures::limits::LAST_TICK;
 use mixed::MixedRow;
+use outlook::entry::Entry;
+use outlook::listing::list_tickets;
 use server::ServerRow;
 use spaced::SpacedRow;
 use std::alloc::{AllocError, Global};
+use waiting::ticket::Ticket;
 
 // The budget rule of the row that a forecast is asked for.
 #[derive(Clone, Copy, PartialEq, Eq, Debug)]
@@ -16,24 +20,24 @@ pub enum Rule {
     Spaced,
 }
 
-// One import in its slot, on a row that has rested up to its tick: its two lines, and the row as the import leaves it.
-fn step<R: LevelRow>(at: &mut RowAt<R>, import: u64, slot: Slot) -> [Line; 2]
-    ensures lines { result ≡ step_lines R.meaning at.old.row at.old.tick import slot }
-    ensures row { at.new.row ≡ after_step R.meaning at.old.row at.old.tick slot }
-    ensures tick { at.new.tick ≡ slot.end }
+// One import as an entry tells of it, on a row that has rested up to its tick: its two lines, and the row as the import leaves it.
+fn step<R: LevelRow>(at: &mut RowAt<R>, entry: Entry) -> [Line; 2]
+    ensures lines { result ≡ step_lines R.meaning at.old.row at.old.tick entry }
+    ensures row { at.new.row ≡ after_step R.meaning at.old.row at.old.tick entry }
+    ensures tick { at.new.tick ≡ entry.end }
 {
-    rest_long(&mut at.row, slot.start.saturating_sub(at.tick));
+    rest_long(&mut at.row, entry.start.saturating_sub(at.tick));
     let begin = Line::Begin {
-        tick: slot.start,
-        import,
+        tick: entry.start,
+        import: entry.number,
         level: at.row.level(),
     };
-    let held = slot.end.saturating_sub(slot.start);
+    let held = entry.end.saturating_sub(entry.start);
     at.row.ended(held);
-    at.tick = slot.end;
+    at.tick = entry.end;
     let end = Line::End {
-        tick: slot.end,
-        import,
+        tick: entry.end,
+        import: entry.number,
         held,
         level: at.row.level(),
         wait: at.row.wake(),
@@ -41,35 +45,39 @@ fn step<R: LevelRow>(at: &mut RowAt<R>, import: u64, slot: Slot) -> [Line; 2]
     [begin, end]
 }
 
-// The lines of imports in their slots, after those that are there.
-fn push_steps<R: LevelRow>(lines: &mut Vec<Line>, row: &R, slots: &[Slot]) -> Result<(), AllocError>
-    ensures { OnOk result (lines.new.items ≡ lines.old.items ++ steps R.meaning row.now 0 1 slots.now) }
+// The lines of imports as they begin and end, after those that are there.
+fn push_steps<R: LevelRow>(
+    lines: &mut Vec<Line>,
+    row: &R,
+    entries: &[Entry],
+) -> Result<(), AllocError>
+    ensures { OnOk result (lines.new.items ≡ lines.old.items ++ steps R.meaning row.now 0 entries.now) }
 {
     let mut at = RowAt { row: *row, tick: 0 };
-    for (i, slot) in slots.iter().enumerate() {
-        lines.extend_from_slice(&step(&mut at, i as u64 + 1, *slot))?;
+    for entry in entries {
+        lines.extend_from_slice(&step(&mut at, *entry))?;
     }
     Ok(())
 }
 
 // A line for each import, after those that are there.
-fn push_imports(lines: &mut Vec<Line>, slots: &[Slot]) -> Result<(), AllocError>
-    ensures { OnOk result (lines.new.items ≡ lines.old.items ++ import_lines 1 slots.now) }
+fn push_imports(lines: &mut Vec<Line>, entries: &[Entry]) -> Result<(), AllocError>
+    ensures { OnOk result (lines.new.items ≡ lines.old.items ++ import_lines entries.now) }
 {
-    for (i, slot) in slots.iter().enumerate() {
+    for entry in entries {
         lines.push(Line::Import {
-            import: i as u64 + 1,
-            start: slot.start,
-            end: slot.end,
-            response: slot.end,
+            import: entry.number,
+            start: entry.start,
+            end: entry.end,
+            response: entry.end,
         })?;
     }
     Ok(())
 }
 
 #[tactic(auto, unfolding(crate::specs::Lines::told))]
-fn tell<R: LevelRow>(heap: Global, row: &R, slots: &[Slot]) -> Result<Vec<Line>, AllocError>
-    ensures { IfOk result (λ v. v.items ≡ told R.meaning row.now slots.now) }
+fn tell<R: LevelRow>(heap: Global, row: &R, entries: &[Entry]) -> Result<Vec<Line>, AllocError>
+    ensures { IfOk result (λ v. v.items ≡ told R.meaning row.now entries.now) }
 {
     let terms = Line::Terms {
         rate: row.rate(),
@@ -81,19 +89,46 @@ fn tell<R: LevelRow>(heap: Global, row: &R, slots: &[Slot]) -> Result<Vec<Line>,
         wait: row.wake(),
     };
     let mut lines = vec![in heap; terms, opening]?;
-    push_steps(&mut lines, row, slots)?;
-    push_imports(&mut lines, slots)?;
+    push_steps(&mut lines, row, entries)?;
+    push_imports(&mut lines, entries)?;
     Ok(lines)
+}
+
+// The tickets that a lab with no ticket waiting is given for imports of these lengths, filed at tick 0.
+fn file(heap: Global, lengths: &[u64]) -> Result<Vec<Ticket>, AllocError>
+    ensures { IfOk result (λ v. v.items ≡ filed lengths.now) }
+{
+    lengths
+        .iter()
+        .enumerate()
+        .map(|(i, length)| Ticket {
+            key: 0,
+            number: i as u64 + 1,
+            lab: 0,
+            filed: 0,
+            length: *length,
+            due: LAST_TICK,
+        })
+        .collect(heap)
+}
+
+// The entries of imports of these lengths, filed at tick 0 and listed on a row.
+#[tactic(auto, using(crate::proofs::Listed::listed_first))]
+fn list_filed<R: BudgetRow>(heap: Global, row: &R, lengths: &[u64]) -> Result<Vec<Entry>, Fault>
+    ensures { Answers result (listed R.meaning row.now lengths.now) }
+{
+    let tickets = file(heap, lengths)?;
+    let mut list = vec![in heap; Entry::default(); lengths.len()]?;
+    list_tickets(row, 0, tickets.as_slice(), list.as_mut_slice())?;
+    Ok(list)
 }
 
 // All that happens to imports of these lengths, filed on a row at tick 0.
 pub fn forecast_row<R: LevelRow>(heap: Global, row: &R, lengths: &[u64]) -> Result<Vec<Line>, Fault>
     ensures { Answers result (on_row R.meaning (Ok row.now) lengths.now) }
 {
-    check_lengths(lengths)?;
-    let mut slots = vec![in heap; Slot::default(); lengths.len()]?;
-    schedule(row, 0, lengths, slots.as_mut_slice())?;
-    Ok(tell(heap, row, slots.as_slice())?)
+    let list = list_filed(heap, row, lengths)?;
+    Ok(tell(heap, row, list.as_slice())?)
 }
 
 // The forecast for the terms of a row of this rule, and the lengths of imports in order. It goes through a mixed row, as a host's table does.

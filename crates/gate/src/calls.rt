@@ -1,9 +1,10 @@
 ghost use Rattle.std.specs.Prelude.{◌≡◌, ◌≤◌, true, length, map, Some, OnOk};
-ghost use Rattle.measures.specs.Limits.{last, is_lab_count};
+ghost use Rattle.measures.specs.Limits.{last, is_lab_count, is_length};
 ghost use Rattle.measures.specs.Refusals.{granted_unless};
-ghost use Rattle.history.specs.Calls.{anew, at_tick, call_checks, file_checks, open_checks, opens, files, withdraws, with_begun, begins, ends};
+ghost use Rattle.history.specs.Calls.{anew, at_tick, call_checks, file_checks, open_checks, opens, files, withdraws, with_filed, with_begun, begins, ends};
 ghost use Rattle.history.specs.Gates.{rested_to};
 ghost use Rattle.history.specs.Guaranteed.{Guarantee};
+ghost use Rattle.waiting.specs.Queues.{may_wait};
 
 use crate::gate::Gate;
 use crate::rows::{rate_sum, rest_others, restart_all, tell};
@@ -50,20 +51,20 @@ impl<T: TurnRule> Gate<T> {
     {
         self.check_file(rows, tick, lab, length, due)?;
         self.rest_to(rows, tick);
-        self.given += 1;
-        // there is room: `check_file` has looked
-        self.waiting.put(Ticket {
+        let number = self.given + 1;
+        self.add(Ticket {
             key: self.order.key(length, due),
-            number: self.given,
+            number,
             lab,
             filed: tick,
             length,
             due,
         });
-        Ok(self.given)
+        Ok(number)
     }
 
     // Takes out a waiting ticket, and answers its lab.
+    #[tactic(auto, using(outlook::proofs::Lawful::lawful_withdrawn))]
     pub fn withdraw<R: BudgetRow>(
         &mut self,
         rows: &mut [R],
@@ -123,7 +124,19 @@ impl<T: TurnRule> Gate<T> {
         Ok((import.number, held, tick.saturating_sub(import.filed)))
     }
 
+    // A ticket comes, for which there is room.
+    #[tactic(auto, using(outlook::proofs::Lawful::lawful_come))]
+    fn add(&mut self, ticket: Ticket)
+        requires room { may_wait self.old.waiting ticket ≡ true }
+        requires lawful { is_length ticket.length ≡ true }
+        ensures { self.new ≡ with_filed self.old ticket }
+    {
+        self.given = ticket.number;
+        self.waiting.put(ticket);
+    }
+
     // The first ticket of a lab leaves, the turn rule hears of the lab, and it holds the lock.
+    #[tactic(auto, using(outlook::proofs::Lawful::lawful_begun))]
     fn start(&mut self, lab: u64, ticket: Ticket)
         ensures { self.new ≡ with_begun T.turns self.old (Some (lab, ticket)) }
     {
@@ -138,6 +151,7 @@ impl<T: TurnRule> Gate<T> {
         });
     }
 
+    #[tactic(auto, using(outlook::proofs::Lawful::lawful_none))]
     fn reset<R: BudgetRow>(&mut self, rows: &mut [R], order: QueueOrder)
         requires { is_lab_count (length rows.old) ≡ true }
         ensures gate { self.new ≡ anew self.old.turns (length rows.old) order }

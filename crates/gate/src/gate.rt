@@ -27,16 +27,18 @@ impl<T> Model for Gate<T> {
     ghost use Rattle.std.specs.Prelude.{◌≤◌};
     ghost use Rattle.measures.specs.Limits.{last, most_labs};
     ghost use Rattle.history.specs.Gates.{GateState};
+    ghost use Rattle.outlook.specs.Outlooks.{AllLawful};
 
     ghost Value = { GateState T };
 
     ghost view = { λ g. record { turns = g.turns; labs = g.labs; order = g.order; clock = g.clock; given = g.given; waiting = g.waiting; running = g.running } };
 
-    ghost invariant = { λ g. (g.labs ≤ most_labs) × (g.clock ≤ last) };
+    ghost invariant = { λ g. (g.labs ≤ most_labs) × (g.clock ≤ last) × AllLawful g.waiting };
 }
 
 impl<T> Gate<T> {
     // A gate that is still to be opened.
+    #[tactic(auto, using(outlook::proofs::Lawful::lawful_none))]
     pub fn new(turns: T) -> Gate<T>
         ensures { result ≡ anew turns 0 Arrival }
     {

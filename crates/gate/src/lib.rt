@@ -3,5 +3,6 @@
 
 mod calls;
 pub mod gate;
+mod outlooks;
 mod rows;
 mod standing;

@@ -4,6 +4,8 @@
 #[cfg(test)]
 mod opening;
 #[cfg(test)]
+mod outlooks;
+#[cfg(test)]
 mod queues;
 #[cfg(test)]
 mod refusals;

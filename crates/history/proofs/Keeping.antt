@@ -69,15 +69,16 @@ no_ticket j None waits gone = true≢false (sym waits)
 no_ticket j (Some u) waits gone = absurd (let z : ◌≡◌ {A = ℕ} 0 1 = cc in omega arith)
 
 -- a denied call begins nothing
-denied_none : {e : Event} (t : ℕ) (turn : Turn) → Denied e → e ≡ Begin t (Ok turn) → ⊥
+pub denied_none : {e : Event} (t : ℕ) (turn : Turn) → Denied e → e ≡ Begin t (Ok turn) → ⊥
 denied_none t turn denied e = true≢false (sym (ap is_granted e) ∙ not_granted denied)
 
 -- nor does a begin with nothing to begin
-none_told : (t : ℕ) (wake : Option ℕ) (k n l : ℕ) → turn_of t None wake ≡ Began k n l → ⊥
+pub none_told : (t : ℕ) (wake : Option ℕ) (k n l : ℕ) → turn_of t None wake ≡ Began k n l → ⊥
 none_told t None k n l e = absurd (let z : ◌≡◌ {A = ℕ} 0 1 = cc in omega arith)
 none_told t (Some w) k n l e = absurd (let z : ◌≡◌ {A = ℕ} 0 1 = cc in omega arith)
 
-same_begun : (t u : ℕ) (x y : Turn) → Begin t (Ok x) ≡ Begin u (Ok y) → (t ≡ u) × (x ≡ y)
+-- two begins that are one
+pub same_begun : (t u : ℕ) (x y : Turn) → Begin t (Ok x) ≡ Begin u (Ok y) → (t ≡ u) × (x ≡ y)
 same_begun t u x y e = (cc, cc)
 
 same_began : (k n l j o p : ℕ) → Began k n l ≡ Began j o p → k ≡ j

@@ -146,7 +146,8 @@ module _ {R T : Type 0} (row : Meaning R) (turn : Turns T) (g : GateState T) (ro
       let parts = and_parts (stands row g rows k) (is_ahead_of_others row turn g rows k) found.2 in
       (omega (arith, found.1), parts.0, λ j. ahead_of_each k j parts.1)
 
-  leader_is : (k : ℕ) → stands row g rows k ≡ true
+  -- a lab that stands, and is ahead of all others that do, is the leader
+  pub leader_is : (k : ℕ) → stands row g rows k ≡ true
       → ((j : ℕ) → j < length rows → stands row g rows j ≡ true → (j ≡ k → ⊥) → is_ahead turn g.turns k j ≡ true) → leader row turn g rows ≡ Some k
   unfolding leader
   leader_is k stood each =

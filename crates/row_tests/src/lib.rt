@@ -1,4 +1,4 @@
-// Tests of the rows and of what comes next on them, by worked cases and at the edges of every number.
+// Tests of the rows and of tickets that are listed on them, by worked cases and at the edges of every number.
 #![tactic(auto)]
 
 #[cfg(test)]
@@ -8,7 +8,7 @@ mod edges;
 #[cfg(test)]
 mod lawful;
 #[cfg(test)]
-mod slots;
+mod listings;
 #[cfg(test)]
 mod tables;
 #[cfg(test)]

@@ -1,0 +1,5 @@
+pub mod Alone
+pub mod Held
+pub mod Lawful
+pub mod Listed
+pub mod OneLab

@@ -1,0 +1,2 @@
+pub mod Outlooks
+pub mod LeftAlone

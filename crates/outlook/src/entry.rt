@@ -1,0 +1,7 @@
+// What an outlook tells of a ticket: its number, and the ticks from `start` to `end` for which it will hold the lock.
+#[derive(Clone, Copy, PartialEq, Eq, Default, Debug)]
+pub struct Entry {
+    pub number: u64,
+    pub start: u64,
+    pub end: u64,
+}
