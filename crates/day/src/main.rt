@@ -122,7 +122,7 @@ fn write_turn<W: fmt::Write>(f: &mut fmt::Formatter<W>, turn: Turn) -> fmt::Resu
     }
 }
 
-// An outlook is always from the clock on.
+// The tick beside an outlook is only printed: it is from the clock on.
 const DAY: [(u64, Call); 30] = [
     // a lab begins as soon as its row is able and its turn has come
     (0, Call::File(0, 3, NO_DUE_DATE)),

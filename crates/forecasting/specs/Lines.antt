@@ -24,11 +24,12 @@ abbrev pub ◌>>=◌ : {A B E : Type 0} → Result A E → (A → Result B E) �
 ◌>>=◌ (Ok a) f = f a
 ◌>>=◌ (Err e) f = Err e
 
--- the ticket that lab 0 is given for an import of c ticks, filed at tick 0 with no due date, where tickets wait in the order of arrival
+-- the ticket of lab 0 for an import of c ticks that is filed at tick 0 with no due date, where tickets wait in the order of arrival
 abbrev pub filed_ticket : ℕ → ℕ → Ticket
 filed_ticket number c = record { key = 0; number = number; lab = 0; filed = 0; length = c; due = last }
 
--- the tickets that a lab with no ticket waiting is given for imports of these lengths, filed one after another: their numbers count from 1
+-- The tickets for imports of these lengths, as if they were the first that are filed at a new gate, by its lab 0: they are numbered from 1.
+-- Whether a gate would take them all is not asked here.
 abbrev pub filed : List ℕ → List Ticket
 filed cs = map (λ p. filed_ticket (p.0 + 1) p.1) (enumerate_from 0 cs)
 

@@ -94,7 +94,7 @@ fn tell<R: LevelRow>(heap: Global, row: &R, entries: &[Entry]) -> Result<Vec<Lin
     Ok(lines)
 }
 
-// The tickets that a lab with no ticket waiting is given for imports of these lengths, filed at tick 0.
+// The tickets for imports of these lengths, as if they were the first that are filed at a new gate.
 fn file(heap: Global, lengths: &[u64]) -> Result<Vec<Ticket>, AllocError>
     ensures { IfOk result (λ v. v.items ≡ filed lengths.now) }
 {

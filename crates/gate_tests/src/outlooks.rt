@@ -1,12 +1,15 @@
+use crate::queues::filed;
 use crate::rows::{SERVER, SPACED};
-use crate::steps::Answer::{Began, Ended, Filed, Nothing, Wait, Withdrawn};
+use crate::steps::Answer::{Began, Denied, Ended, Filed, Wait, Withdrawn};
 use crate::steps::Call::{Begin, End, File, Withdraw};
-use crate::steps::{Answer, Call, NO_DUE, fill, follow, opened, opened_by};
+use crate::steps::{Answer, Call, NO_DUE, fill, follow, opened};
 use budget::row::BudgetRow;
 use gate::gate::Gate;
 use measures::limits::LAST_TICK;
 use measures::refusal::Refusal;
-use measures::refusal::Refusal::{ListTooShort, LockHeld, NoSuchLab, TableMismatch};
+use measures::refusal::Refusal::{
+    ListTooShort, LockHeld, NoSuchLab, TableMismatch, TickOutOfRange,
+};
 use outlook::entry::Entry;
 use server::ServerRow;
 use spaced::SpacedRow;
@@ -133,49 +136,49 @@ fn without_the_second_ticket(rt: HostRuntime) {
     );
 }
 
-// A lab's tickets by arrival, by due tick and the shortest first, after pauses of 12, 7, 12, 3, 7 and 5 ticks.
+// The same six tickets by arrival, by due tick and the shortest first. The runs of 1 to 6 are followed by pauses of 12, 7, 12, 3, 7 and 5
+// ticks.
+const ORDERS: [(QueueOrder, [(u64, u64, u64); 6]); 3] = [
+    (
+        QueueOrder::Arrival,
+        [
+            (1, 0, 5),
+            (2, 17, 20),
+            (3, 27, 32),
+            (4, 44, 45),
+            (5, 48, 51),
+            (6, 58, 60),
+        ],
+    ),
+    (
+        QueueOrder::Due,
+        [
+            (6, 0, 2),
+            (2, 7, 10),
+            (3, 17, 22),
+            (5, 34, 37),
+            (1, 44, 49),
+            (4, 61, 62),
+        ],
+    ),
+    (
+        QueueOrder::Short,
+        [
+            (4, 0, 1),
+            (6, 4, 6),
+            (2, 11, 14),
+            (5, 21, 24),
+            (1, 31, 36),
+            (3, 48, 53),
+        ],
+    ),
+];
+
 #[test]
 fn queue_orders(rt: HostRuntime) {
-    let by_arrival = [
-        (1, 0, 5),
-        (2, 17, 20),
-        (3, 27, 32),
-        (4, 44, 45),
-        (5, 48, 51),
-        (6, 58, 60),
-    ];
-    let by_due_tick = [
-        (6, 0, 2),
-        (2, 7, 10),
-        (3, 17, 22),
-        (5, 34, 37),
-        (1, 44, 49),
-        (4, 61, 62),
-    ];
-    let shortest = [
-        (4, 0, 1),
-        (6, 4, 6),
-        (2, 11, 14),
-        (5, 21, 24),
-        (1, 31, 36),
-        (3, 48, 53),
-    ];
-    let steps = [
-        (File(0, 0, 5, NO_DUE), Filed(1)),
-        (File(0, 0, 3, 40), Filed(2)),
-        (File(0, 0, 5, 40), Filed(3)),
-        (File(0, 0, 1, NO_DUE), Filed(4)),
-        (File(0, 0, 3, 40), Filed(5)),
-        (File(0, 0, 2, 7), Filed(6)),
-    ];
-    for (order, entries) in [
-        (QueueOrder::Arrival, by_arrival),
-        (QueueOrder::Due, by_due_tick),
-        (QueueOrder::Short, shortest),
-    ] {
+    for (order, entries) in ORDERS {
         let mut rows = [SPACED];
-        let mut gate = opened_by(&rt, &mut rows, CircularTurns::new(), order);
-        follow(&rt, &mut gate, &mut rows, &steps);
+        let gate = filed(&rt, &mut rows, order);
         check_outlook(&rt, &gate, &rows, 0, &entries);
     }
 }
@@ -261,7 +264,7 @@ fn above_the_last_tick(rt: HostRuntime) {
     check_outlook(&rt, &gate, &rows, 0, &entries);
 }
 
-// An import that begins at the last tick is foretold to end after it.
+// An import that begins at the last tick is foretold to end after it, and cannot end up to it as declared.
 #[test]
 fn from_the_last_tick_on(rt: HostRuntime) {
     let mut rows = [SPACED];
@@ -276,6 +279,11 @@ fn from_the_last_tick_on(rt: HostRuntime) {
         (2, LAST_TICK + 10, LAST_TICK + 13),
     ];
     check_outlook(&rt, &gate, &rows, 0, &entries);
+    let run = [
+        (Begin(LAST_TICK), Began(0, 1, 3)),
+        (End(LAST_TICK + 3), Denied(TickOutOfRange)),
+    ];
+    follow(&rt, &mut gate, &mut rows, &run);
 }
 
 // Each is denied by the first of the refusals that fit it.

@@ -10,7 +10,7 @@ use turns::circular::CircularTurns;
 use waiting::queue_order::QueueOrder;
 
 // The tickets with numbers 1 to 6, of one lab.
-fn filed(rt: &impl Abort, rows: &mut [SpacedRow; 1], order: QueueOrder) -> Gate<CircularTurns> {
+pub fn filed(rt: &impl Abort, rows: &mut [SpacedRow; 1], order: QueueOrder) -> Gate<CircularTurns> {
     let mut gate = opened_by(rt, rows, CircularTurns::new(), order);
     let steps = [
         (File(0, 0, 5, NO_DUE), Filed(1)),

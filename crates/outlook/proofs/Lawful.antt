@@ -3,14 +3,15 @@ use Rattle.std.proofs.Common.{◌≡◌, ℕ, ◌≤◌, Bool, true, false, nat_
 use Rattle.std.specs.Option.{option_map_or}
 use Rattle.std.proofs.lemmas.Bool.{le-leb, le-ltb, cases_eq, cases_lt, and_from}
 use Rattle.std.proofs.lemmas.List.{get_or-set_same, get_or-set_other, get_or_past, length-set, length-append}
-use Rattle.std.proofs.lemmas.List.Elements.{All-nil, All-head, All-tail, All-drop}
+use Rattle.std.proofs.lemmas.List.Elements.{All-nil, All-drop}
+use Rattle.std.proofs.lemmas.List.Sums.{list_all-from_AllPass}
 use Rattle.measures.specs.Limits.{last, most_waiting, is_length}
 use Rattle.measures.specs.Refusals.{granted_unless}
 use Rattle.measures.specs.declared.refusal.Refusal.{Refusal}
 use Rattle.measures.specs.declared.refusal.Refusal.TheVariants.{ListTooShort}
 use Rattle.waiting.specs.Queues.{queue_of, none_waiting, with_ticket, without_first, without_numbered, waiting_ticket, without_ticket, headed_by}
 use Rattle.waiting.specs.declared.ticket.Ticket.{Ticket}
-use Rattle.waiting.proofs.Labs.{All-inserted, All-without_numbered, queue_of-none_waiting}
+use Rattle.waiting.proofs.Labs.{each_set, All-inserted, All-without_numbered, queue_of-none_waiting}
 use Rattle.outlook.specs.Outlooks.{AllLawful, are_lawful, place_checks, listable}
 
 -- the ticket's declared length is lawful
@@ -19,15 +20,7 @@ Lawful t = is_length t.length ≡ true
 
 -- a queue of such tickets in the place of another
 lawful_set : (qs : List (List Ticket)) (k : ℕ) (q : List Ticket) → AllLawful qs → All Lawful q → AllLawful (set qs k q)
-lawful_set qs k q all new = record {
-  each = λ j. ⊎_elim
-      (λ same. subst (λ i. All Lawful (queue_of (set qs k q) i)) (sym same) (⊎_elim
-      (λ low. subst (All Lawful) (sym (get_or-set_same qs k q [] low)) new)
-      (λ past. subst (All Lawful) (sym (get_or_past (set qs k q) k [] (omega (arith, past, length-set qs k q)))) (All-nil Lawful))
-      (cases_lt k (length qs))))
-      (λ other. subst (All Lawful) (sym (get_or-set_other qs k j q [] other)) (all.each j))
-      (cases_eq j k);
-}
+lawful_set qs k q all new = record { each = each_set (λ _. All Lawful) qs k q all.each new }
 
 -- where no ticket waits
 pub lawful_none : (qs : List (List Ticket)) → qs ≡ none_waiting → AllLawful qs
@@ -54,10 +47,6 @@ without n qs (Some t) all = lawful_set qs t.lab _ all (All-without_numbered Lawf
 pub lawful_withdrawn : (before qs : List (List Ticket)) (n : ℕ) → AllLawful before → qs ≡ without_ticket before n → AllLawful qs
 lawful_withdrawn before qs n all gone = subst AllLawful (sym gone) (without n before (waiting_ticket before n) all)
 
-each_passes : (ts : List Ticket) → All Lawful ts → are_lawful ts ≡ true
-each_passes [] all = refl
-each_passes (t ∷ ts) all = and_from _ _ (All-head Lawful t ts all) (each_passes ts (All-tail Lawful t ts all))
-
 -- a refusal by this check alone is its own
 short_alone : (short : Bool) (n : ℕ) (r : Refusal) → Err r ≡ granted_unless {A = Unit {0}} ((short, ListTooShort) ∷ []) tt
     → Err r ≡ granted_unless ((short, ListTooShort) ∷ []) n
@@ -74,4 +63,4 @@ only_short qs k t count places tickets before r all tick is held room denied =
     let few : length q ≤ most_waiting = omega (arith, ap length held, length-append q (drop (length q) before), room) in
     let same : take count tickets ≡ q = rw (is, held) (take_at q (drop (length q) before) (length q) refl) in
     short_alone (nat_lt places (length q)) (length q) r
-    (denied ∙ rw (same, le-leb t last tick, each_passes q (all.each k), le-ltb most_waiting (length q) few) refl)
+    (denied ∙ rw (same, le-leb t last tick, list_all-from_AllPass (λ t. is_length t.length) q (all.each k), le-ltb most_waiting (length q) few) refl)

@@ -2,7 +2,8 @@
 use Rattle.std.proofs.Common.{◌≡◌, ℕ, zero, suc, ◌+◌, ◌*◌, ◌^◌, ◌<◌, ◌≤◌, true, List, [], ◌∷◌, ◌++◌, length, get_or, take, drop, set, sym, refl, ap, ◌∙◌, append_assoc, arith, drop-set-lt, take_at, append-nil, subst}
 use Rattle.std.proofs.lemmas.List.{take_more_set, drop_more, at_drop_more, at_drop_all, take-append-drop}
 use Rattle.std.proofs.lemmas.Bool.{and_parts, leb-true}
-use Rattle.measures.specs.Limits.{last, most_waiting, greatest_length}
+use Rattle.std.proofs.lemmas.List.Sums.{AllPass-from_list_all}
+use Rattle.measures.specs.Limits.{last, most_waiting, greatest_length, is_length}
 use Rattle.budget.specs.Meaning.{Meaning, Sentences}
 use Rattle.budget.specs.Imports.{next_slot, after_run, schedule, written_over, AllSoonest}
 use Rattle.budget.proofs.Resting.{wake_limit, all_soonest}
@@ -12,18 +13,16 @@ use Rattle.outlook.specs.Outlooks.{lengths, slots, outlook, are_lawful, AreSoone
 
 -- each of lawful tickets is lawful
 pub lawful_at : (ts : List Ticket) (i : ℕ) (d : Ticket) → are_lawful ts ≡ true → i < length ts → (get_or ts i d).length ≤ greatest_length
-lawful_at (t ∷ ts) zero d all h = leb-true _ _ (and_parts _ _ (and_parts _ _ all).0).1
-lawful_at (t ∷ ts) (suc i) d all h = lawful_at ts i d (and_parts _ _ all).1 (omega arith)
-lawful_at [] i d all h = absurd (omega arith)
+lawful_at ts i d all h = leb-true _ _ (and_parts _ _ (AllPass-from_list_all (λ t. is_length t.length) ts all i d h)).1
 
 module _ {R : Type 0} (m : Meaning R) where
   -- the slots that are told are those that come next
-  pub slots-outlook : (x : R) (t : ℕ) (ts : List Ticket) → slots (outlook m x t ts) ≡ schedule m x t (lengths ts)
+  slots-outlook : (x : R) (t : ℕ) (ts : List Ticket) → slots (outlook m x t ts) ≡ schedule m x t (lengths ts)
   slots-outlook x t [] = refl
   slots-outlook x t (k ∷ ks) = ap (λ ss. next_slot m x t k.length ∷ ss) (slots-outlook (after_run m x k.length) (next_slot m x t k.length).end ks)
 
   -- and there is an entry for each ticket
-  pub length-outlook : (x : R) (t : ℕ) (ts : List Ticket) → length (outlook m x t ts) ≡ length ts
+  length-outlook : (x : R) (t : ℕ) (ts : List Ticket) → length (outlook m x t ts) ≡ length ts
   length-outlook x t [] = refl
   length-outlook x t (k ∷ ks) = ap suc (length-outlook (after_run m x k.length) (next_slot m x t k.length).end ks)
 
@@ -52,11 +51,11 @@ module _ {R : Type 0} {m : Meaning R} (s : Sentences m) where
   none_listed x t ts old tick = (refl, refl, omega arith)
 
   -- the end of the next can be told
-  pub told : (x y : R) (t u i : ℕ) (ts : List Ticket) (old list : List Entry) (d : Ticket)
+  pub end_fits : (x y : R) (t u i : ℕ) (ts : List Ticket) (old list : List Entry) (d : Ticket)
       → i < length ts → length ts ≤ most_waiting → are_lawful ts ≡ true
       → Listed m x t ts old list y u i → u + m.wake y + (get_or ts i d).length < 2 ^ 64
   unfolding Listed
-  told x y t u i ts old list d more few lawful so_far = omega (arith, so_far.2, wake_limit s y, lawful_at ts i d lawful more)
+  end_fits x y t u i ts old list d more few lawful so_far = omega (arith, so_far.2, wake_limit s y, lawful_at ts i d lawful more)
 
   -- one more is listed
   pub one_listed : (x y z : R) (t u v i : ℕ) (ts : List Ticket) (old list : List Entry) (d : Ticket) (e : Entry)

@@ -1,4 +1,4 @@
--- What becomes of a lab that is left alone with its tickets, by the gate's own calls, and that a list foretells just this.
+-- What becomes of a lab that is left alone with its tickets, by the gate's own calls, and what it is for a list to foretell just this.
 use Rattle.std.specs.Prelude.{◌≡◌, ◌↔◌, ℕ, ◌+◌, ◌-◌, ◌<◌, ◌≤◌, List, [], ◌∷◌, ◌++◌, Ok, if◌then◌else◌}
 use Rattle.measures.specs.Limits.{last, is_tick}
 use Rattle.budget.specs.Meaning.{Meaning}
@@ -47,14 +47,14 @@ module _ {R T : Type 0} (row : Meaning R) (turn : Turns T) where
     outlasts : {s : Moment R T} {t c : ℕ} → FirstBegin s t c → last < t + c → LeftAlone s (event (ToBegin t) s ∷ [])
 
 -- an event at tick t, if that is not above the last tick
-abbrev pub in_time : ℕ → Event → List Event
-in_time t e = if is_tick t then e ∷ [] else []
+abbrev pub up_to_last : ℕ → Event → List Event
+up_to_last t e = if is_tick t then e ∷ [] else []
 
 -- what an entry foretells of a ticket of a lab: it begins at its start, and ends at its end, with the ticks held and the response time
 abbrev pub foretold : ℕ → Ticket → Entry → List Event
 foretold lab ticket e =
-    in_time e.start (started e.start lab e.number ticket.length)
-    ++ in_time e.end (End e.end (Ok (e.number, e.end - e.start, e.end - ticket.filed)))
+    up_to_last e.start (started e.start lab e.number ticket.length)
+    ++ up_to_last e.end (End e.end (Ok (e.number, e.end - e.start, e.end - ticket.filed)))
 
 -- the same of tickets and their entries, one after another
 abbrev pub all_foretold : ℕ → List Ticket → List Entry → List Event

@@ -1,6 +1,6 @@
 -- What is foretold of tickets on one row, and what a gate answers that is asked for the outlook of a lab.
-use Rattle.std.specs.Prelude.{◌≡◌, ℕ, Bool, true, not, nat_le, nat_lt, List, [], ◌∷◌, ◌++◌, map, length, take, slice_get, is_some, IfSome, Ok, Err, Result, All}
-use Rattle.std.specs.List.{list_all}
+use Rattle.std.specs.Prelude.{◌≡◌, ℕ, Bool, not, nat_le, nat_lt, List, [], ◌∷◌, ◌++◌, map, length, take, slice_get, is_some, IfSome, Ok, Err, Result}
+use Rattle.std.specs.List.{list_all, AllPass}
 use Rattle.std.specs.Option.{option_map_or}
 use Rattle.measures.specs.Limits.{most_waiting, is_tick, is_length}
 use Rattle.measures.specs.Refusals.{granted_unless}
@@ -69,7 +69,7 @@ listable t tickets places = granted_unless (list_checks t tickets places) tt
 
 -- every ticket that waits has a lawful declared length
 pub record AllLawful (qs : List (List Ticket)) : Type 0 where
-  pub each : (k : ℕ) → All (λ ticket. is_length ticket.length ≡ true) (queue_of qs k)
+  pub each : (k : ℕ) → AllPass (λ ticket. is_length ticket.length) (queue_of qs k)
 
 -- what a gate that is asked for an outlook answers, and what it leaves of the list that it is given
 pub record Told : Type 0 where

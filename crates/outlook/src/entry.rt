@@ -1,4 +1,4 @@
-// What an outlook tells of a ticket: its number, and the ticks from `start` to `end` for which it will hold the lock.
+// What an outlook tells of a ticket: its number, and the ticks from `start` to `end` for which its import would hold the lock.
 #[derive(Clone, Copy, PartialEq, Eq, Default, Debug)]
 pub struct Entry {
     pub number: u64,

@@ -1,4 +1,4 @@
-// The outlook: when the waiting tickets of a lab will run, if it is left alone.
+// The outlook: when tickets will run, on a row alone and for a lab that is left alone.
 #![tactic(auto)]
 
 pub mod entry;

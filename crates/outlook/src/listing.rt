@@ -1,6 +1,6 @@
 ghost use Rattle.std.specs.Prelude.{◌≡◌, ◌+◌, ◌^◌, ◌<◌, ◌≤◌, true, length, OnOk, OnErr};
 ghost use Rattle.measures.specs.Limits.{last, most_waiting};
-ghost use Rattle.budget.specs.Imports.{next_slot, after_run, written_over};
+ghost use Rattle.budget.specs.Imports.{written_over};
 ghost use Rattle.outlook.specs.Outlooks.{are_lawful, AreSoonest, Ran, listable, outlook};
 
 use crate::entry::Entry;
@@ -12,7 +12,7 @@ use waiting::ticket::Ticket;
 
 // Lists when tickets will run on a row alone, from `tick` on: each begins as soon as the row is able, once the one before it has ended, and
 // lasts as declared. The first places of the list are written, so that no memory is asked for. Refused, and nothing is written, for a tick
-// above the last tick, tickets that cannot wait in one queue, or a list with fewer places than tickets.
+// above the last tick, a declared length out of range, more than 16 tickets, or a list with fewer places than tickets.
 #[tactic(auto, using(crate::proofs::Listed::listed_soonest))]
 pub fn list_tickets<R: BudgetRow>(
     row: &R,
@@ -55,7 +55,7 @@ fn are_lawful(tickets: &[Ticket]) -> bool
     tickets.iter().all(|ticket| is_length(ticket.length))
 }
 
-#[tactic(auto, using(crate::proofs::Listed::lawful_at, crate::proofs::Listed::none_listed, crate::proofs::Listed::told, crate::proofs::Listed::one_listed, crate::proofs::Listed::all_listed))]
+#[tactic(auto, using(crate::proofs::Listed::lawful_at, crate::proofs::Listed::none_listed, crate::proofs::Listed::end_fits, crate::proofs::Listed::one_listed, crate::proofs::Listed::all_listed))]
 fn fill_list<R: BudgetRow>(row: &R, tick: u64, tickets: &[Ticket], list: &mut [Entry])
     requires tick { tick ≤ last }
     requires lawful { are_lawful tickets.now ≡ true }
@@ -73,7 +73,7 @@ fn fill_list<R: BudgetRow>(row: &R, tick: u64, tickets: &[Ticket], list: &mut [E
 // One import: the row rests until it is able, and runs for as long as the ticket declares.
 #[tactic(auto, using(budget::proofs::Resting::woken_able), unfolding(crate::specs::Outlooks::Ran))]
 fn run<R: BudgetRow>(at: &mut RowAt<R>, ticket: Ticket) -> Entry
-    requires told { at.old.tick + R.meaning.wake at.old.row + ticket.length < 2 ^ 64 }
+    requires fits { at.old.tick + R.meaning.wake at.old.row + ticket.length < 2 ^ 64 }
     requires lawful { ticket.length ≤ last }
     ensures { Ran R.meaning at.old.row at.old.tick ticket result at.new.row at.new.tick }
 {

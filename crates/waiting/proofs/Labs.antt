@@ -31,6 +31,18 @@ All-without_numbered P n (u ∷ us) all =
     (λ no. rw no (All-cons P u (without_numbered n us) (All-head P u us all) (All-without_numbered P n us later)))
     (cases_Bool (nat_eq u.number n))
 
+-- what holds of each queue, and of the one that is put in its place, holds of each queue then
+pub each_set : (P : ℕ → List Ticket → Type 0) (qs : List (List Ticket)) (k : ℕ) (q : List Ticket) → ((j : ℕ) → P j (queue_of qs j)) → P k q
+    → (j : ℕ) → P j (queue_of (slice_set qs k q) j)
+each_set P qs k q each new j =
+    ⊎_elim
+    (λ same. subst (λ i. P i (queue_of (slice_set qs k q) i)) (sym same) (⊎_elim
+    (λ low. subst (P k) (sym (get_or-set_same qs k q [] low)) new)
+    (λ past. subst (P k) (get_or_past qs k [] past ∙ sym (get_or_past (slice_set qs k q) k [] (omega (arith, past, length-set qs k q)))) (each k))
+    (cases_lt k (length qs))))
+    (λ other. subst (P j) (sym (get_or-set_other qs k j q [] other)) (each j))
+    (cases_eq j k)
+
 -- every ticket of q is lab k's
 abbrev Own : ℕ → List Ticket → Type 0
 Own k q = All (λ t. t.lab ≡ k) q
@@ -59,13 +71,7 @@ module _ (qs : List (List Ticket)) (k : ℕ) (old : List Ticket) (o : AreOwn qs)
   own_old = subst (Own k) (sym is_queue) (o.own k)
 
   own_set : (q : List Ticket) → Own k q → AreOwn (slice_set qs k q)
-  own_set q new = record {
-    labs = length-set qs k q ∙ o.labs;
-    own = λ j. ⊎_elim
-        (λ same. subst (Own j) (sym (ap (λ i. slice_index_or (slice_set qs k q) i []) same ∙ get_or-set_same qs k q [] within)) (subst (λ i. Own i q) (sym same) new))
-        (λ other. subst (Own j) (sym (get_or-set_other qs k j q [] other)) (o.own j))
-        (cases_eq j k);
-  }
+  own_set q new = record { labs = length-set qs k q ∙ o.labs; own = each_set Own qs k q o.own new }
 
   pub own_put : (t : Ticket) (new : List Ticket) (r : Bool) → t.lab ≡ k → new ≡ (if r then inserted ticket_before t old else old) → AreOwn (slice_set qs k new)
   own_put t new true of_k put = own_set new (subst (Own k) (sym put) (All-inserted (λ u. u.lab ≡ k) t old of_k own_old))
