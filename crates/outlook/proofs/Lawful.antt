@@ -1,8 +1,8 @@
 -- Every ticket that waits has a lawful declared length, and so it stays whatever a call does to the queues.
-use Rattle.std.proofs.Common.{◌≡◌, ℕ, ◌≤◌, Bool, true, false, nat_lt, List, [], ◌∷◌, length, set, take, drop, Err, if◌then◌else◌, Option, Some, None, All, refl, sym, ap, subst, ◌∙◌, arith, ⊎_elim, take_at}
+use Rattle.std.proofs.Common.{◌≡◌, ℕ, ◌≤◌, Bool, true, false, nat_lt, List, [], ◌∷◌, length, set, take, drop, Err, if◌then◌else◌, Option, Some, None, All, refl, sym, ap, subst, ◌∙◌, arith, take_at}
 use Rattle.std.specs.Option.{option_map_or}
-use Rattle.std.proofs.lemmas.Bool.{le-leb, le-ltb, cases_eq, cases_lt, and_from}
-use Rattle.std.proofs.lemmas.List.{get_or-set_same, get_or-set_other, get_or_past, length-set, length-append}
+use Rattle.std.proofs.lemmas.Bool.{le-leb, le-ltb}
+use Rattle.std.proofs.lemmas.List.{length-append}
 use Rattle.std.proofs.lemmas.List.Elements.{All-nil, All-drop}
 use Rattle.std.proofs.lemmas.List.Sums.{list_all-from_AllPass}
 use Rattle.measures.specs.Limits.{last, most_waiting, is_length}
@@ -12,7 +12,7 @@ use Rattle.measures.specs.declared.refusal.Refusal.TheVariants.{ListTooShort}
 use Rattle.waiting.specs.Queues.{queue_of, none_waiting, with_ticket, without_first, without_numbered, waiting_ticket, without_ticket, headed_by}
 use Rattle.waiting.specs.declared.ticket.Ticket.{Ticket}
 use Rattle.waiting.proofs.Labs.{each_set, All-inserted, All-without_numbered, queue_of-none_waiting}
-use Rattle.outlook.specs.Outlooks.{AllLawful, are_lawful, place_checks, listable}
+use Rattle.outlook.specs.Outlooks.{AllLawful, place_checks, listable}
 
 -- the ticket's declared length is lawful
 abbrev Lawful : Ticket → Type 0
