@@ -1,8 +1,8 @@
 use forecast_lines::{Fault, Line};
 use forecasting::lines::{Rule, forecast, forecast_row};
-use forecasting::numbers::number;
 use measures::limits::LAST_TICK;
 use measures::refusal::Refusal;
+use numerals::number;
 use spaced::SpacedRow;
 use std::alloc::Global;
 use std::process::Abort;
@@ -10,13 +10,13 @@ use std::test::Fail;
 
 #[test]
 fn words_as_numbers(rt: HostRuntime) {
-    assert_eq!(rt; number("0"), Some(0));
-    assert_eq!(rt; number("0042"), Some(42));
-    assert_eq!(rt; number("18446744073709551615"), Some(u64::MAX));
-    assert_eq!(rt; number("18446744073709551616"), Some(u64::MAX));
-    assert_eq!(rt; number("99999999999999999999999"), Some(u64::MAX));
+    assert_eq!(rt; number(b"0"), Some(0));
+    assert_eq!(rt; number(b"0042"), Some(42));
+    assert_eq!(rt; number(b"18446744073709551615"), Some(u64::MAX));
+    assert_eq!(rt; number(b"18446744073709551616"), Some(u64::MAX));
+    assert_eq!(rt; number(b"99999999999999999999999"), Some(u64::MAX));
     for word in ["", "-1", "+1", " 1", "1 ", "1.5", "0x10", "1a", "/", ":"] {
-        assert_eq!(rt; number(word), None);
+        assert_eq!(rt; number(word.as_bytes()), None);
     }
 }
 

@@ -1,4 +1,3 @@
 mod Asked
-mod Digits
 mod Held
 mod Listed

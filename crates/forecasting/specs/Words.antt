@@ -5,7 +5,7 @@ use Rattle.std.specs.Str.{bytes_eq}
 use Rattle.std.specs.declared.alloc.Global.{Global}
 use Rattle.forecasting.specs.Lines as lines
 use Rattle.forecasting.specs.Lines.{◌>>=◌}
-use Rattle.forecasting.specs.Numbers.{number_of}
+use Rattle.numerals.specs.Numerals.{number_of}
 use Rattle.forecasting.specs.declared.lines.Rule.{Rule}
 use Rattle.forecasting.specs.declared.lines.Rule.TheVariants.{Server, Spaced}
 use Rattle.forecast_lines.specs.declared.Line.{Line}

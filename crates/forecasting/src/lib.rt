@@ -2,5 +2,4 @@
 #![tactic(auto)]
 
 pub mod lines;
-pub mod numbers;
 pub mod words;

@@ -3,8 +3,8 @@ ghost use Rattle.forecasting.specs.Lines.{Answers};
 ghost use Rattle.forecasting.specs.Words.{first_place, numbers_at, foretold_on, foretold};
 
 use crate::lines::{self, Rule};
-use crate::numbers::number;
 use forecast_lines::{Fault, Line};
+use numerals::number;
 use std::alloc::Global;
 
 // The forecast that the words of a command line ask for: RATE CEILING THRESHOLD LENGTH... for a server row, or spaced RATE LENGTH...
@@ -32,7 +32,7 @@ fn read_numbers(heap: Global, rule: Rule, words: &[String]) -> Result<Vec<u64>, 
     let first = first_place(rule);
     let mut numbers = Vec::new(heap);
     for (i, word) in words.iter().enumerate() {
-        numbers.push(number(word.as_str()).ok_or(Fault::NotANumber(first + i))?)?;
+        numbers.push(number(word.as_bytes()).ok_or(Fault::NotANumber(first + i))?)?;
     }
     Ok(numbers)
 }

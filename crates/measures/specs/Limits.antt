@@ -39,6 +39,18 @@ greatest_rate_sum = 900
 abbrev pub most_tickets : ℕ
 most_tickets = 1000000000000
 
+-- filings of one plan
+abbrev pub most_filings : ℕ
+most_filings = 1024
+
+-- withdrawals of one plan
+abbrev pub most_withdrawals : ℕ
+most_withdrawals = 256
+
+-- bytes in which a plan is written
+abbrev pub most_plan_bytes : ℕ
+most_plan_bytes = 65536
+
 abbrev pub is_tick : ℕ → Bool
 is_tick t = nat_le t last
 

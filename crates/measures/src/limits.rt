@@ -24,8 +24,14 @@ pub const GREATEST_RATE_SUM: u64 = 900;
 
 pub const MOST_TICKETS: u64 = 1_000_000_000_000;
 
-// One function for each limit, and not one over two bounds: a caller names the rule, and a wrong limit is refused here, since a constant has
-// no contract.
+pub const MOST_FILINGS: u64 = 1024;
+
+pub const MOST_WITHDRAWALS: u64 = 256;
+
+pub const MOST_PLAN_BYTES: u64 = 65_536;
+
+// One function for each limit that a call checks, and not one over two bounds: a caller names the rule, and a wrong limit is refused here,
+// since a constant has no contract. The limits of a plan are checked by its reader alone, which refuses a wrong one.
 
 pub fn is_tick(tick: u64) -> bool
     ensures { result ≡ is_tick tick }

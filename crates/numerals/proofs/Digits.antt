@@ -3,7 +3,7 @@ use Rattle.std.proofs.Common.{◌≡◌, ℕ, ◌+◌, ◌-◌, ◌*◌, ◌<◌
 use Rattle.std.proofs.lemmas.List.{at_drop_more}
 use Rattle.std.specs.Char.{is_ascii_digit}
 use Rattle.std.specs.Str.{all_ascii_digits}
-use Rattle.forecasting.specs.Numbers.{largest, followed_by}
+use Rattle.numerals.specs.Numerals.{largest, followed_by}
 
 -- numbers that are cut to the same are so with more digits too
 same_cut : (n m : ℕ) (bs : List ℕ) → min n largest ≡ min m largest → min (followed_by n bs) largest ≡ min (followed_by m bs) largest

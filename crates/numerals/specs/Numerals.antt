@@ -1,4 +1,4 @@
--- The number that a word of decimal digits writes.
+-- The number that a text of decimal digits writes.
 use Rattle.std.specs.Prelude.{ℕ, ◌+◌, ◌-◌, ◌*◌, ◌^◌, min, List, [], ◌∷◌, length, Some, None, Option, if◌then◌else◌, ◌==◌}
 use Rattle.std.specs.Str.{all_ascii_digits}
 

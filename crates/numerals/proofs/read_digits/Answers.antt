@@ -1,10 +1,10 @@
 use Rattle.std.proofs.Common.{sym, arith, ◌∙◌}
-use Rattle.forecasting.proofs.Digits.{digits_more, value_more}
-use Rattle.forecasting.proofs.numbers.read_digits.Goals as goal
+use Rattle.numerals.proofs.Digits.{digits_more, value_more}
+use Rattle.numerals.proofs.read_digits.Goals as goal
 
 pub loop-byte-preserved : goal.loop-byte-preserved
 loop-byte-preserved c =
-    let bytes = c.args.bytes.now in
+    let bytes = c.args.text.now in
     let i = c.loop-byte.byte-index in
     let good = sym c.is_ascii_digit.ensures.value ∙ c.if-not-is_ascii_digit.false in
     record {

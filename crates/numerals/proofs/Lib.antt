@@ -1,0 +1,2 @@
+mod Digits
+pub mod Written

@@ -1,0 +1,4 @@
+mod Cuts
+mod InTurn
+mod RoundTrip
+mod Spelling

@@ -1,0 +1,81 @@
+ghost use Rattle.std.specs.Prelude.{◌≡◌, ℕ, List};
+ghost use Rattle.plan.specs.Plans.{terms_of, filing_of, withdrawal_of};
+
+// The terms of a lab's server row, as a plan gives them.
+#[derive(Clone, Copy, PartialEq, Eq, Debug)]
+pub struct Terms {
+    pub rate: u64,
+    pub ceiling: u64,
+    pub threshold: u64,
+}
+
+#[derive(Clone, Copy, PartialEq, Eq, Debug)]
+pub struct Filing {
+    pub tick: u64,
+    pub lab: u64,
+    pub length: u64,
+    pub due: u64,
+}
+
+#[derive(Clone, Copy, PartialEq, Eq, Debug)]
+pub struct Withdrawal {
+    pub tick: u64,
+    pub ticket: u64,
+}
+
+#[derive(Debug, Drop)]
+pub struct Plan {
+    pub labs: Vec<Terms>,
+    pub filings: Vec<Filing>,
+    pub withdrawals: Vec<Withdrawal>,
+}
+
+// What a line of a plan stands for that has N numbers.
+pub(crate) trait PlanLine<const N: usize>: Copy {
+    ghost said: { List ℕ → Self };
+
+    fn from_numbers(numbers: [u64; N]) -> Self
+        ensures { result ≡ said numbers.entry };
+}
+
+impl PlanLine<3> for Terms {
+    ghost said = { terms_of };
+
+    fn from_numbers(numbers: [u64; 3]) -> Terms
+        ensures { result ≡ terms_of numbers }
+    {
+        let [rate, ceiling, threshold] = numbers;
+        Terms {
+            rate,
+            ceiling,
+            threshold,
+        }
+    }
+}
+
+impl PlanLine<4> for Filing {
+    ghost said = { filing_of };
+
+    fn from_numbers(numbers: [u64; 4]) -> Filing
+        ensures { result ≡ filing_of numbers }
+    {
+        let [tick, lab, length, due] = numbers;
+        Filing {
+            tick,
+            lab,
+            length,
+            due,
+        }
+    }
+}
+
+impl PlanLine<2> for Withdrawal {
+    ghost said = { withdrawal_of };
+
+    fn from_numbers(numbers: [u64; 2]) -> Withdrawal
+        ensures { result ≡ withdrawal_of numbers }
+    {
+        let [tick, ticket] = numbers;
+        Withdrawal { tick, ticket }
+    }
+}
