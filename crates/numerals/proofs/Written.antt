@@ -28,7 +28,7 @@ number_written n small =
     rw (there, digits_written n small, value) refl
 
 -- a choice that gives something
-chosen : {A : Type 0} (b : Bool) (o : Option A) (x : A) → cond b None o ≡ Some x → (b ≡ false) × (o ≡ Some x)
+pub chosen : {A : Type 0} (b : Bool) (o : Option A) (x : A) → cond b None o ≡ Some x → (b ≡ false) × (o ≡ Some x)
 chosen true o x e = absurd (none-some x e)
 chosen false o x e = (refl, e)
 

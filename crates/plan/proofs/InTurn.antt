@@ -4,8 +4,9 @@ use Rattle.std.proofs.lemmas.List.{take_more_set, length-replicate}
 use Rattle.std.specs.List.{onto_first}
 use Rattle.plan.specs.declared.faults.Break.{Break}
 use Rattle.plan.specs.declared.fields.Span.{Span}
-use Rattle.plan.specs.Reading.{◌>>=◌, next_number, numbers, fields, fields_left, Left, any, next_line, lines}
-use denote.Ref.{Bor}
+use Rattle.plan.specs.Readers.{fields_left}
+use Rattle.plan.specs.Reading.{◌>>=◌, next_number, numbers, fields, Left, any_number, next_line, lines}
+use Rattle.std.specs.Borrow.{Bor}
 
 -- these first, and then what is read
 abbrev pub after : {A : Type 0} → List A → Result (List A) Break → Result (List A) Break
@@ -18,8 +19,8 @@ after_one done x (Err b) = refl
 
 -- Of the n numbers of a line with these fields the first i, in the first places of ns, are read; with those of the fields that are left they are
 -- all, or the first break is left.
-unfoldable pub HaveRead : Span → ℕ → ℕ → List (List ℕ) → List ℕ → Option (Bor (List ℕ)) → ℕ → Type 0
-HaveRead span line n all ns rest i =
+unfoldable pub HaveFields : Span → ℕ → ℕ → List (List ℕ) → List ℕ → Option (Bor (List ℕ)) → ℕ → Type 0
+HaveFields span line n all ns rest i =
     (after (take i ns) (numbers span line (i + 1) (n - i) (fields_left rest)) ≡ numbers span line 1 n all) × (length ns ≡ n)
 
 first_field : (text : List ℕ) → (first : List ℕ) × (more : List (List ℕ)) × (fields text ≡ first ∷ more)
@@ -32,9 +33,9 @@ first_field (b ∷ bs) = go (b == 32) (first_field bs) where
 
 module _ (span : Span) (line n : ℕ) where
   -- none is read
-  pub none_read : (text : Bor (List ℕ)) → HaveRead span line n (fields text.now) (replicate n 0) (Some text) 0
-  unfolding HaveRead
-  none_read text = (rw (none_off) (only (numbers span line 1 n (fields text.now))), length-replicate n 0) where
+  pub no_field : (text : Bor (List ℕ)) → HaveFields span line n (fields text.now) (replicate n 0) (Some text) 0
+  unfolding HaveFields
+  no_field text = (rw (none_off) (only (numbers span line 1 n (fields text.now))), length-replicate n 0) where
     none_off : n - 0 ≡ n
     none_off = omega arith
 
@@ -43,11 +44,11 @@ module _ (span : Span) (line n : ℕ) where
     only (Err b) = refl
 
   -- the next field writes a number
-  pub one_more : (i v : ℕ) (all : List (List ℕ)) (ns : List ℕ) (rest left : Option (Bor (List ℕ))) → HaveRead span line n all ns rest i → i < n
+  pub one_field : (i v : ℕ) (all : List (List ℕ)) (ns : List ℕ) (rest left : Option (Bor (List ℕ))) → HaveFields span line n all ns rest i → i < n
       → next_number span (record { line = line; field = i + 1 }) (fields_left rest) ≡ Ok (v, fields_left left)
-      → HaveRead span line n all (set ns i v) left (i + 1)
-  unfolding HaveRead
-  one_more i v all ns rest left so_far more next =
+      → HaveFields span line n all (set ns i v) left (i + 1)
+  unfolding HaveFields
+  one_field i v all ns rest left so_far more next =
       let k : n - i ≡ suc (n - (i + 1)) = omega arith in
       let two : i + 1 + 1 ≡ suc (i + 1) = omega arith in
       let others = numbers span line (i + 1 + 1) (n - (i + 1)) (fields_left left) in
@@ -56,27 +57,27 @@ module _ (span : Span) (line n : ℕ) where
       (rw taken (sym (after_one (take i ns) v others) ∙ ap (after (take i ns)) (sym read) ∙ so_far.0), length-set ns i v ∙ so_far.1)
 
   -- the next field breaks the form
-  pub one_wrong : (i : ℕ) (all : List (List ℕ)) (ns : List ℕ) (rest : Option (Bor (List ℕ))) (b : Break) → HaveRead span line n all ns rest i → i < n
+  pub field_broken : (i : ℕ) (all : List (List ℕ)) (ns : List ℕ) (rest : Option (Bor (List ℕ))) (b : Break) → HaveFields span line n all ns rest i → i < n
       → next_number span (record { line = line; field = i + 1 }) (fields_left rest) ≡ Err b → numbers span line 1 n all ≡ Err b
-  unfolding HaveRead
-  one_wrong i all ns rest b so_far more next =
+  unfolding HaveFields
+  field_broken i all ns rest b so_far more next =
       let k : n - i ≡ suc (n - (i + 1)) = omega arith in
       sym so_far.0 ∙ rw (k, next) refl
 
   -- all fields due were read, and none is left
-  pub all_read : (i : ℕ) (all : List (List ℕ)) (ns : List ℕ) (rest : Option (Bor (List ℕ))) → HaveRead span line n all ns rest i → n ≤ i → rest ≡ None
+  pub all_fields : (i : ℕ) (all : List (List ℕ)) (ns : List ℕ) (rest : Option (Bor (List ℕ))) → HaveFields span line n all ns rest i → n ≤ i → rest ≡ None
       → numbers span line 1 n all ≡ Ok ns
-  unfolding HaveRead
-  all_read i all ns rest so_far done over =
+  unfolding HaveFields
+  all_fields i all ns rest so_far done over =
       let none : n - i ≡ 0 = omega arith in
       sym so_far.0 ∙ rw (over, none, take_all i ns (omega (arith, so_far.1))) (ap (λ vs. Ok vs) (append-nil ns))
 
   -- all fields due were read, and one more is left
-  pub one_surplus : (i : ℕ) (all : List (List ℕ)) (ns : List ℕ) (rest : Option (Bor (List ℕ))) (text : Bor (List ℕ))
-      → HaveRead span line n all ns rest i → n ≤ i → i ≤ n → rest ≡ Some text
+  pub surplus_field : (i : ℕ) (all : List (List ℕ)) (ns : List ℕ) (rest : Option (Bor (List ℕ))) (text : Bor (List ℕ))
+      → HaveFields span line n all ns rest i → n ≤ i → i ≤ n → rest ≡ Some text
       → numbers span line 1 n all ≡ Err (record { line = line; field = n + 1 })
-  unfolding HaveRead
-  one_surplus i all ns rest text so_far done within next =
+  unfolding HaveFields
+  surplus_field i all ns rest text so_far done within next =
       let none : n - i ≡ 0 = omega arith in
       let same : i ≡ n = omega arith in
       sym so_far.0 ∙ rw (next, none, (first_field text.now).2, same) refl
@@ -90,15 +91,15 @@ with_line : {T : Type 0} (done : List T) (x : T) (read : Result (List T × Left)
 with_line done x (Ok b) = ap (λ xs. Ok (xs, b.1)) (sym (append_assoc done (x ∷ []) b.0))
 with_line done x (Err b) = refl
 
--- Of the lines from s on, n of them in all, the first i have said xs; with what those say that are left they say all, or the first break is left.
-unfoldable pub HaveSaid : {T : Type 0} → (List ℕ → T) → ℕ → ℕ → Left → List T → Left → ℕ → Type 0
-HaveSaid said width n s xs now i = with_lines xs (lines said width (n - i) now) ≡ lines said width n s
+-- Of the lines from s on, n of them in all, the first i have meant xs; with what those say that are left they say all, or the first break is left.
+unfoldable pub HaveLines : {T : Type 0} → (List ℕ → T) → ℕ → ℕ → Left → List T → Left → ℕ → Type 0
+HaveLines meant width n s xs now i = with_lines xs (lines meant width (n - i) now) ≡ lines meant width n s
 
-module _ {T : Type 0} (said : List ℕ → T) (width n : ℕ) (s : Left) where
-  -- none has said anything
-  pub none_said : HaveSaid said width n s [] s 0
-  unfolding HaveSaid
-  none_said = rw (none_off) (only (lines said width n s)) where
+module _ {T : Type 0} (meant : List ℕ → T) (width n : ℕ) (s : Left) where
+  -- none has meant anything
+  pub no_line : HaveLines meant width n s [] s 0
+  unfolding HaveLines
+  no_line = rw (none_off) (only (lines meant width n s)) where
     none_off : n - 0 ≡ n
     none_off = omega arith
 
@@ -107,25 +108,25 @@ module _ {T : Type 0} (said : List ℕ → T) (width n : ℕ) (s : Left) where
     only (Err b) = refl
 
   -- the next line is read
-  pub one_said : (i : ℕ) (xs : List T) (now then : Left) (ns : List ℕ) → HaveSaid said width n s xs now i → i < n
-      → next_line any width now ≡ Ok (ns, then) → HaveSaid said width n s (xs ++ said ns ∷ []) then (i + 1)
-  unfolding HaveSaid
-  one_said i xs now then ns so_far more next =
+  pub one_line : (i : ℕ) (xs : List T) (now then : Left) (ns : List ℕ) → HaveLines meant width n s xs now i → i < n
+      → next_line any_number width now ≡ Ok (ns, then) → HaveLines meant width n s (xs ++ meant ns ∷ []) then (i + 1)
+  unfolding HaveLines
+  one_line i xs now then ns so_far more next =
       let k : n - i ≡ suc (n - (i + 1)) = omega arith in
-      let read : lines said width (n - i) now ≡ (lines said width (n - (i + 1)) then >>= λ b. Ok (said ns ∷ b.0, b.1)) = rw (k, next) refl in
-      sym (with_line xs (said ns) (lines said width (n - (i + 1)) then)) ∙ ap (with_lines xs) (sym read) ∙ so_far
+      let read : lines meant width (n - i) now ≡ (lines meant width (n - (i + 1)) then >>= λ b. Ok (meant ns ∷ b.0, b.1)) = rw (k, next) refl in
+      sym (with_line xs (meant ns) (lines meant width (n - (i + 1)) then)) ∙ ap (with_lines xs) (sym read) ∙ so_far
 
   -- the next line breaks the form
-  pub one_broken : (i : ℕ) (xs : List T) (now : Left) (b : Break) → HaveSaid said width n s xs now i → i < n → next_line any width now ≡ Err b
-      → lines said width n s ≡ Err b
-  unfolding HaveSaid
-  one_broken i xs now b so_far more next =
+  pub line_broken : (i : ℕ) (xs : List T) (now : Left) (b : Break) → HaveLines meant width n s xs now i → i < n → next_line any_number width now ≡ Err b
+      → lines meant width n s ≡ Err b
+  unfolding HaveLines
+  line_broken i xs now b so_far more next =
       let k : n - i ≡ suc (n - (i + 1)) = omega arith in
       sym so_far ∙ rw (k, next) refl
 
-  -- all have said theirs
-  pub all_said : (i : ℕ) (xs : List T) (now : Left) → HaveSaid said width n s xs now i → n ≤ i → lines said width n s ≡ Ok (xs, now)
-  unfolding HaveSaid
-  all_said i xs now so_far done =
+  -- all have meant theirs
+  pub all_lines : (i : ℕ) (xs : List T) (now : Left) → HaveLines meant width n s xs now i → n ≤ i → lines meant width n s ≡ Ok (xs, now)
+  unfolding HaveLines
+  all_lines i xs now so_far done =
       let none : n - i ≡ 0 = omega arith in
       sym so_far ∙ rw none (ap (λ ys. Ok (ys, now)) (append-nil xs))

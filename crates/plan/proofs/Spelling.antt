@@ -1,22 +1,25 @@
--- What is read is what was written: fields, lines, sections and plans, in both directions.
-use Rattle.std.proofs.Common.{◌≡◌, ℕ, zero, suc, ◌==◌, Bool, true, false, cond, ◌||◌, ◌+◌, ◌^◌, ◌<◌, ◌≤◌, leb, List, [], ◌∷◌, ◌++◌, length, map, get_or, drop, take_at, drop_at, length-append, Option, Some, None, Result, Ok, Err, refl, sym, ap, subst, ◌∙◌, append_assoc, arith}
-use Rattle.std.specs.List.{slice_split, before_first, after_first, position_or_len, list_any, join_with_byte, AllByRecursion}
+-- What is read is what was written, and what is written is read: a field, and a line. Lemmas named `read_` go from what was read, those that
+-- end in `_read` from what is written.
+use Rattle.std.proofs.Common.{◌≡◌, ℕ, zero, suc, ◌==◌, Bool, true, false, cond, ◌+◌, ◌^◌, ◌<◌, ◌≤◌, All, leb, List, [], ◌∷◌, ◌++◌, length, map, get_or, drop, take_at, drop_at, length-append, Option, Some, None, Result, Ok, Err, refl, sym, ap, subst, ◌∙◌, append_assoc, arith}
+use Rattle.std.specs.List.{before_first, after_first, position_or_len, list_any, join_with_byte, AllByRecursion}
 use Rattle.std.specs.Fmt.{decimal}
 use Rattle.std.specs.Str.{all_ascii_digits}
 use Rattle.std.specs.Char.{is_ascii_digit}
-use Rattle.std.specs.Option.{ok_or}
-use Rattle.std.proofs.lemmas.Bool.{and_parts, leb-true, ltb-true, eqb-true}
+use Rattle.std.specs.Option.{ok_or, option_and_then}
+use Rattle.std.specs.Bool.{then_some}
+use Rattle.std.proofs.lemmas.Bool.{and_parts, or_parts, leb-true, ltb-true, eqb-true}
 use Rattle.std.proofs.lemmas.List.Sums.{split_at_first, passes_at_first}
-use Rattle.std.proofs.lemmas.List.Splits.{join_with_byte-slice_split}
+use Rattle.std.proofs.lemmas.List.Splits.{join_with_byte-slice_split, slice_split_none, slice_split_at}
+use Rattle.std.proofs.lemmas.List.Elements.{All-from_recursion}
 use Rattle.std.proofs.lemmas.List.Folds.{list_any-append}
-use Rattle.std.proofs.lemmas.Option.{cond_some, none-some}
+use Rattle.std.proofs.lemmas.Option.{none-some}
 use Rattle.std.proofs.lemmas.Fmt.{decimal_digit, first_decimal}
 use Rattle.numerals.specs.Numerals.{number_of}
-use Rattle.numerals.proofs.Written.{digits_written, number_written, written_number}
+use Rattle.numerals.proofs.Written.{digits_written, number_written, written_number, chosen}
 use Rattle.measures.specs.Limits.{last}
 use Rattle.plan.specs.declared.faults.Break.{Break}
 use Rattle.plan.specs.declared.fields.Span.{Span}
-use Rattle.plan.specs.Reading.{◌>>=◌, is_feed, is_space, is_in, in_span, has_leading_zero, number_in, next_number, numbers, fields, breaks, Left, next_line}
+use Rattle.plan.specs.Reading.{◌>>=◌, is_feed, is_space, is_within, has_leading_zero, number_in, next_number, numbers, fields, breaks, Left, next_line}
 use Rattle.plan.specs.Writing.{written_line}
 use Rattle.plan.proofs.Cuts.{any_first}
 
@@ -24,7 +27,7 @@ use Rattle.plan.proofs.Cuts.{any_first}
 
 -- a number of this span
 abbrev pub In : Span → ℕ → Type 0
-In span n = is_in span n ≡ true
+In span n = is_within span n ≡ true
 
 plain_start : (text : List ℕ) → has_leading_zero text ≡ false → get_or text 0 0 ≡ 48 → length text ≡ 1
 plain_start [] plain first = absurd (let e : ◌≡◌ {A = ℕ} 0 48 = first in omega arith)
@@ -40,14 +43,14 @@ no_leading_zero : (n : ℕ) → n < 2 ^ 64 → has_leading_zero (decimal n) ≡ 
 no_leading_zero zero small = rw (decimal_digit 0 (omega arith)) refl
 no_leading_zero (suc n) small = starts_above (decimal (suc n)) (first_decimal (suc n) (omega arith) small)
 
-from_choice : {A : Type 0} (b : Bool) (o : Option A) (x : A) → cond b None o ≡ Some x → (b ≡ false) × (o ≡ Some x)
-from_choice true o x e = absurd (none-some x e)
-from_choice false o x e = (refl, e)
+from_test : (b : Bool) (n v : ℕ) → then_some b n ≡ Some v → (b ≡ true) × (n ≡ v)
+from_test true n v e = (refl, cc)
+from_test false n v e = absurd (none-some v e)
 
-from_span : (span : Span) (o : Option ℕ) (v : ℕ) → in_span span o ≡ Some v → (o ≡ Some v) × In span v
+from_span : (span : Span) (o : Option ℕ) (v : ℕ) → option_and_then (λ n. then_some (is_within span n) n) o ≡ Some v → (o ≡ Some v) × In span v
 from_span span None v e = absurd (none-some v e)
 from_span span (Some n) v e =
-    let parts = cond_some _ _ _ e in
+    let parts = from_test (is_within span n) n v e in
     (ap (λ k. Some k) parts.1, rw (← parts.1) parts.0)
 
 small_in : (span : Span) (v : ℕ) → span.greatest ≤ last → In span v → v ≤ last
@@ -55,7 +58,7 @@ small_in span v top within = omega (arith, leb-true v span.greatest (and_parts (
 
 pub read_field : (span : Span) (text : List ℕ) (v : ℕ) → span.greatest ≤ last → number_in span text ≡ Some v → In span v × (text ≡ decimal v)
 read_field span text v top read =
-    let plain = from_choice _ _ _ read in
+    let plain = chosen _ _ _ read in
     let found = from_span span (number_of text) v plain.1 in
     (found.1, written_number text v found.0 (omega (arith, small_in span v top found.1)) (plain_start text plain.0))
 
@@ -106,10 +109,6 @@ numbers_read span l f (v ∷ vs) top all = rw (field_read span v top all.0, numb
 
 -- ---- where a line is cut
 
-or_parts : (a b : Bool) → (a || b) ≡ false → (a ≡ false) × (b ≡ false)
-or_parts true b e = absurd cc
-or_parts false b e = (refl, e)
-
 -- no element passes
 abbrev pub Lacks : (ℕ → Bool) → List ℕ → Type 0
 Lacks p xs = list_any p xs ≡ false
@@ -118,6 +117,14 @@ past : (xs : List ℕ) (y : ℕ) (ys : List ℕ) → drop (length xs + 1) (xs ++
 past xs y ys = ap (drop (length xs + 1)) (sym (append_assoc xs (y ∷ []) ys)) ∙ drop_at (xs ++ y ∷ []) ys (length xs + 1) (length-append xs (y ∷ []))
 
 module _ (p : ℕ → Bool) where
+  none_pass : (xs : List ℕ) → Lacks p xs → All (λ x. p x ≡ false) xs
+  none_pass xs lacks = All-from_recursion (λ x. p x ≡ false) xs (go xs lacks) where
+    go : (ys : List ℕ) → Lacks p ys → AllByRecursion (λ x. p x ≡ false) ys
+    go [] lacks = tt
+    go (y ∷ ys) lacks =
+        let parts = or_parts (p y) (list_any p ys) lacks in
+        (parts.0, go ys parts.1)
+
   first_at : (xs : List ℕ) (y : ℕ) (ys : List ℕ) → Lacks p xs → p y ≡ true → position_or_len p (xs ++ y ∷ ys) ≡ length xs
   first_at [] y ys lacks passes = rw passes refl
   first_at (x ∷ xs) y ys lacks passes =
@@ -129,18 +136,6 @@ module _ (p : ℕ → Bool) where
   cut_at xs y ys lacks passes =
       let first = first_at xs y ys lacks passes in
       (rw first (take_at xs (y ∷ ys) (length xs) refl), rw first (past xs y ys), list_any-append p xs (y ∷ ys) ∙ rw (lacks, passes) refl)
-
-  split_lacks : (xs : List ℕ) → Lacks p xs → slice_split p xs ≡ xs ∷ []
-  split_lacks [] lacks = refl
-  split_lacks (x ∷ xs) lacks =
-      let parts = or_parts (p x) (list_any p xs) lacks in
-      rw (parts.0, split_lacks xs parts.1) refl
-
-  split_at : (xs : List ℕ) (y : ℕ) (ys : List ℕ) → Lacks p xs → p y ≡ true → slice_split p (xs ++ y ∷ ys) ≡ xs ∷ slice_split p ys
-  split_at [] y ys lacks passes = rw passes refl
-  split_at (x ∷ xs) y ys lacks passes =
-      let parts = or_parts (p x) (list_any p xs) lacks in
-      rw (parts.0, split_at xs y ys parts.1 passes) refl
 
 -- ---- the bytes of a line
 
@@ -169,9 +164,9 @@ decimal_lacks : (p : ℕ → Bool) → ((c : ℕ) → is_ascii_digit c ≡ true 
 decimal_lacks p none n small = digits_lack p none (decimal n) (digits_written n (omega arith))
 
 text_fields : (v : ℕ) (vs : List ℕ) → Small (v ∷ vs) → fields (text (v ∷ vs)) ≡ map decimal (v ∷ vs)
-text_fields v [] small = split_lacks is_space (decimal v) (decimal_lacks is_space digit_no_space v small.0)
+text_fields v [] small = slice_split_none is_space (decimal v) (none_pass is_space (decimal v) (decimal_lacks is_space digit_no_space v small.0))
 text_fields v (w ∷ vs) small =
-    split_at is_space (decimal v) 32 (text (w ∷ vs)) (decimal_lacks is_space digit_no_space v small.0) refl
+    slice_split_at is_space (decimal v) 32 (text (w ∷ vs)) (none_pass is_space (decimal v) (decimal_lacks is_space digit_no_space v small.0)) refl
     ∙ ap (λ ps. decimal v ∷ ps) (text_fields w vs small.1)
 
 text_one_line : (vs : List ℕ) → Small vs → Lacks is_feed (text vs)

@@ -1,3 +1,4 @@
 pub mod Plans
+pub mod Readers
 pub mod Reading
 pub mod Writing

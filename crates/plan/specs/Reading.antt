@@ -1,15 +1,14 @@
 -- What the bytes of a plan say: the plan, or where they first break its form.
-use Rattle.std.specs.Prelude.{◌≡◌, ℕ, zero, suc, ◌+◌, Bool, false, ◌&&◌, List, [], ◌∷◌, length, Option, Some, None, Result, Ok, Err, nat_le, nat_lt, ◌==◌, if◌then◌else◌, slice_index}
+use Rattle.std.specs.Prelude.{ℕ, zero, suc, ◌+◌, Bool, false, ◌&&◌, List, [], ◌∷◌, length, Option, None, Result, Ok, Err, nat_le, nat_lt, ◌==◌, if◌then◌else◌, slice_index}
 use Rattle.std.specs.List.{slice_split, before_first, after_first, list_any}
-use Rattle.std.specs.Option.{ok_or, option_map_or}
-use Rattle.std.specs.Borrow.{Bor}
+use Rattle.std.specs.Option.{ok_or, option_and_then}
+use Rattle.std.specs.Bool.{then_some}
 use Rattle.measures.specs.Limits.{last, most_labs, most_filings, most_withdrawals, most_plan_bytes}
 use Rattle.numerals.specs.Numerals.{number_of}
 use Rattle.plan.specs.declared.faults.Break.{Break}
 use Rattle.plan.specs.declared.faults.ReadError.{ReadError}
 use Rattle.plan.specs.declared.faults.ReadError.TheVariants as errors
 use Rattle.plan.specs.declared.fields.Span.{Span}
-use Rattle.plan.specs.declared.lines.Lines.{Lines}
 use Rattle.plan.specs.Plans.{Lists, terms_of, filing_of, withdrawal_of}
 
 -- what comes after what was read
@@ -32,30 +31,28 @@ has_leading_zero [] = false
 has_leading_zero (c ∷ []) = false
 has_leading_zero (c ∷ d ∷ ds) = c == 48
 
--- whether a number is of this span
-abbrev pub is_in : Span → ℕ → Bool
-is_in span n = nat_le span.least n && nat_le n span.greatest
+-- from the least to the greatest of this span
+abbrev pub is_within : Span → ℕ → Bool
+is_within span n = nat_le span.least n && nat_le n span.greatest
 
--- a number that is of this span
-abbrev pub in_span : Span → Option ℕ → Option ℕ
-in_span span None = None
-in_span span (Some n) = if is_in span n then Some n else None
-
--- the number of this span that a field writes in decimal digits
+-- the number that a field writes in decimal digits, if it is within this span
 abbrev pub number_in : Span → List ℕ → Option ℕ
-number_in span field = if has_leading_zero field then None else in_span span (number_of field)
+number_in span field =
+    if has_leading_zero field then None else option_and_then (λ n. then_some (is_within span n) n) (number_of field)
 
 -- any number that a plan may have
-abbrev pub any : Span
-any = record { least = 0; greatest = last }
+abbrev pub any_number : Span
+any_number = record { least = 0; greatest = last }
 
--- how many labs, filings and withdrawals there may be
+-- how many labs a plan may have
 abbrev pub lab_counts : Span
 lab_counts = record { least = 1; greatest = most_labs }
 
+-- how many filings
 abbrev pub filing_counts : Span
 filing_counts = record { least = 0; greatest = most_filings }
 
+-- how many withdrawals
 abbrev pub withdrawal_counts : Span
 withdrawal_counts = record { least = 0; greatest = most_withdrawals }
 
@@ -66,10 +63,6 @@ breaks l f = Err (record { line = l; field = f })
 -- the fields of a line: what stands between its spaces
 abbrev pub fields : List ℕ → List (List ℕ)
 fields text = slice_split is_space text
-
--- the fields of a part of a line that is left, if there is one
-abbrev pub fields_left : Option (Bor (List ℕ)) → List (List ℕ)
-fields_left rest = option_map_or (λ text. fields text.now) rest []
 
 -- the number in the first of these fields, which is due at this place, and the fields after it
 abbrev pub next_number : Span → Break → List (List ℕ) → Result (ℕ × List (List ℕ)) Break
@@ -92,10 +85,6 @@ pub record Left : Type 0 where
 abbrev pub start : List ℕ → Left
 start bs = record { bytes = bs; line = 1 }
 
--- what a reader of lines has left
-abbrev pub left : Lines → Left
-left s = record { bytes = s.rest.now; line = s.line }
-
 -- The n numbers of the next line, and what is left after it. Its fields end where the first line feed is, or where the bytes end; a line with its
 -- numbers and no line feed breaks at its last field.
 abbrev pub next_line : Span → ℕ → Left → Result (List ℕ × Left) Break
@@ -103,30 +92,18 @@ next_line span n s =
     numbers span s.line 1 n (fields (before_first is_feed s.bytes)) >>= λ vs.
     if list_any is_feed s.bytes then Ok (vs, record { bytes = after_first is_feed s.bytes; line = s.line + 1 }) else breaks s.line n
 
--- what the next k lines say, each by its n numbers
+-- what is meant by the next k lines of n numbers each
 abbrev pub lines : {T : Type 0} → (List ℕ → T) → ℕ → ℕ → Left → Result (List T × Left) Break
-lines said n zero s = Ok ([], s)
-lines said n (suc k) s = next_line any n s >>= λ line. lines said n k line.1 >>= λ more. Ok (said line.0 ∷ more.0, more.1)
+lines meant n zero s = Ok ([], s)
+lines meant n (suc k) s = next_line any_number n s >>= λ line. lines meant n k line.1 >>= λ more. Ok (meant line.0 ∷ more.0, more.1)
 
--- what a section says: how many lines it has, on a line of its own, and these
+-- what is meant by a section: on a line of its own how many lines it has, and then these
 abbrev pub section : {T : Type 0} → (List ℕ → T) → ℕ → Span → Left → Result (List T × Left) Break
-section said n counts s = next_line counts 1 s >>= λ count. lines said n (slice_index count.0 0) count.1
+section meant n counts s = next_line counts 1 s >>= λ count. lines meant n (slice_index count.0 0) count.1
 
 -- nothing is left
 abbrev pub no_more : Left → Result (Unit {0}) Break
 no_more s = if length s.bytes == 0 then Ok tt else breaks s.line 1
-
--- what a function returned, seen by view, is what was said
-abbrev pub Gives : {A B : Type 0} → (A → B) → Result A Break → Result B Break → Type 0
-Gives view (Ok a) said = said ≡ Ok (view a)
-Gives view (Err b) said = said ≡ Err b
-
--- the same, where memory may run out
-abbrev pub Answers : {A B : Type 0} → (A → B) → Result A ReadError → Result B ReadError → Type 0
-Answers view (Ok a) said = said ≡ Ok (view a)
-Answers view (Err errors.TooLong) said = said ≡ Err errors.TooLong
-Answers view (Err (errors.Broken b)) said = said ≡ Err (errors.Broken b)
-Answers view (Err errors.OutOfMemory) said = Unit {0}
 
 -- a break is an error of reading
 abbrev pub or_broken : {A : Type 0} → Result A Break → Result A ReadError
@@ -142,6 +119,6 @@ plan_of bs = do
   nothing ← no_more withdrawals.1
   Ok (record { labs = labs.0; filings = filings.0; withdrawals = withdrawals.0 })
 
--- what the bytes say: too many say nothing
+-- what the bytes say, of which there may be too many
 abbrev pub read_plan : List ℕ → Result Lists ReadError
 read_plan bs = if nat_lt most_plan_bytes (length bs) then Err errors.TooLong else or_broken (plan_of bs)

@@ -12,21 +12,23 @@ use Rattle.plan.specs.Plans.{Lists}
 abbrev pub written_line : List ℕ → List ℕ
 written_line ns = join_with_byte 32 (map decimal ns) ++ 10 ∷ []
 
--- the numbers of a line of each section
+-- the numbers of a line by which these terms are meant
 abbrev pub terms_numbers : Terms → List ℕ
 terms_numbers t = t.rate ∷ t.ceiling ∷ t.threshold ∷ []
 
+-- the numbers of a filing
 abbrev pub filing_numbers : Filing → List ℕ
 filing_numbers f = f.tick ∷ f.lab ∷ f.length ∷ f.due ∷ []
 
+-- the numbers of a withdrawal
 abbrev pub withdrawal_numbers : Withdrawal → List ℕ
 withdrawal_numbers w = w.tick ∷ w.ticket ∷ []
 
--- the lines of a section: how many they are, and they
+-- a section of these lines: one that counts them, and then they
 abbrev pub counted : List (List ℕ) → List (List ℕ)
 counted ls = (length ls ∷ []) ∷ ls
 
--- the lines of a plan
+-- all lines of a plan
 abbrev pub plan_lines : Lists → List (List ℕ)
 plan_lines p = counted (map terms_numbers p.labs) ++ (counted (map filing_numbers p.filings) ++ counted (map withdrawal_numbers p.withdrawals))
 

@@ -1,7 +1,7 @@
 ghost use Rattle.std.specs.Prelude.{◌≡◌};
 ghost use Rattle.plan.specs.declared.faults.ReadError.TheVariants.{Broken, OutOfMemory};
 
-use std::alloc::{AllocError, AllocFailed};
+use std::alloc::AllocFailed;
 use thiserror::Error;
 
 // Where bytes first break the form of a plan. Lines and fields count from 1.
@@ -28,14 +28,6 @@ impl From<Break> for ReadError {
 
     fn from(at: Break) -> ReadError {
         ReadError::Broken(at)
-    }
-}
-
-impl From<AllocError> for ReadError {
-    ghost from_gives = { λ _ e. e ≡ OutOfMemory };
-
-    fn from(_error: AllocError) -> ReadError {
-        ReadError::OutOfMemory
     }
 }
 

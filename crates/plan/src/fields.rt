@@ -1,7 +1,8 @@
 ghost use Rattle.std.specs.Prelude.{◌≡◌, ◌<◌, ◌==◌, ◌∷◌, [], length, is_some, IfSome};
 ghost use Rattle.std.specs.List.{slice_split, before_first, after_first, list_any, position};
 ghost use Rattle.std.specs.Option.{option_map_or};
-ghost use Rattle.plan.specs.Reading.{number_in, next_number, numbers, fields, fields_left, Gives};
+ghost use Rattle.plan.specs.Readers.{fields_left, Gives};
+ghost use Rattle.plan.specs.Reading.{number_in, next_number, numbers, fields};
 
 use crate::faults::Break;
 use measures::limits::LAST_TICK;
@@ -66,7 +67,7 @@ fn next_number(rest: Option<&[u8]>, at: Break, span: Span) -> Result<(u64, Optio
 }
 
 // The numbers of a line with N fields, or where it first breaks this form.
-#[tactic(auto, using(crate::proofs::InTurn::none_read, crate::proofs::InTurn::one_more, crate::proofs::InTurn::one_wrong, crate::proofs::InTurn::all_read, crate::proofs::InTurn::one_surplus))]
+#[tactic(auto, using(crate::proofs::InTurn::no_field, crate::proofs::InTurn::one_field, crate::proofs::InTurn::field_broken, crate::proofs::InTurn::all_fields, crate::proofs::InTurn::surplus_field))]
 pub(crate) fn read_fields<const N: usize>(
     text: &[u8],
     line: u64,

@@ -15,7 +15,8 @@ pub(crate) struct Lines<'a> {
 }
 
 impl<'a> Lines<'a> {
-    ghost use Rattle.plan.specs.Reading.{left, start, next_line, lines, section, no_more, Gives, Answers, or_broken};
+    ghost use Rattle.plan.specs.Reading.{start, next_line, lines, section, no_more, or_broken};
+    ghost use Rattle.plan.specs.Readers.{left, Gives, Answers};
 
     pub(crate) fn new(bytes: &'a [u8]) -> Lines<'a>
         ensures { left result ≡ start bytes.now }
@@ -45,22 +46,22 @@ impl<'a> Lines<'a> {
         Ok(numbers)
     }
 
-    // What so many lines say.
-    #[tactic(auto, using(crate::proofs::InTurn::none_said, crate::proofs::InTurn::one_said, crate::proofs::InTurn::one_broken, crate::proofs::InTurn::all_said))]
+    // What is meant by the next lines.
+    #[tactic(auto, using(crate::proofs::InTurn::no_line, crate::proofs::InTurn::one_line, crate::proofs::InTurn::line_broken, crate::proofs::InTurn::all_lines))]
     fn lines<const N: usize, T: PlanLine<N>>(
         &mut self,
         heap: Global,
         count: u64,
     ) -> Result<Vec<T>, ReadError>
         requires { N ≤ 4 }
-        ensures { Answers (λ v. (v.items, left self.new)) result (or_broken (lines T.said N count (left self.old))) }
+        ensures { Answers (λ v. (v.items, left self.new)) result (or_broken (lines T.meant N count (left self.old))) }
     {
-        let mut said = Vec::new(heap);
+        let mut meant = Vec::new(heap);
         for _ in 0..count {
             let numbers = self.next_line::<N>(ANY)?;
-            said.push(T::from_numbers(numbers))?;
+            meant.push(T::from_numbers(numbers))?;
         }
-        Ok(said)
+        Ok(meant)
     }
 
     // A section: how many lines it has, on a line of its own, and these.
@@ -70,7 +71,7 @@ impl<'a> Lines<'a> {
         counts: Span,
     ) -> Result<Vec<T>, ReadError>
         requires { N ≤ 4 }
-        ensures { Answers (λ v. (v.items, left self.new)) result (or_broken (section T.said N counts (left self.old))) }
+        ensures { Answers (λ v. (v.items, left self.new)) result (or_broken (section T.meant N counts (left self.old))) }
     {
         let [count] = self.next_line::<1>(counts)?;
         self.lines(heap, count)

@@ -1,7 +1,9 @@
 ghost use Rattle.std.specs.Prelude.{◌≡◌, ℕ, List};
 ghost use Rattle.plan.specs.Plans.{terms_of, filing_of, withdrawal_of};
 
-// The terms of a lab's server row, as a plan gives them.
+// The numbers of a plan are only read: whether they are lawful as rates, labs or lengths is not asked.
+
+// The terms of a lab's server row: thousandths per tick, and twice thousandths of a tick.
 #[derive(Clone, Copy, PartialEq, Eq, Debug)]
 pub struct Terms {
     pub rate: u64,
@@ -9,6 +11,7 @@ pub struct Terms {
     pub threshold: u64,
 }
 
+// What a lab is to file, and at which tick; length and due are in ticks.
 #[derive(Clone, Copy, PartialEq, Eq, Debug)]
 pub struct Filing {
     pub tick: u64,
@@ -17,12 +20,14 @@ pub struct Filing {
     pub due: u64,
 }
 
+// Which ticket is to be withdrawn, by its number, and at which tick.
 #[derive(Clone, Copy, PartialEq, Eq, Debug)]
 pub struct Withdrawal {
     pub tick: u64,
     pub ticket: u64,
 }
 
+// What is to happen at a site. Labs are numbered from 0, as they stand here.
 #[derive(Debug, Drop)]
 pub struct Plan {
     pub labs: Vec<Terms>,
@@ -30,16 +35,16 @@ pub struct Plan {
     pub withdrawals: Vec<Withdrawal>,
 }
 
-// What a line of a plan stands for that has N numbers.
+// What is meant by a line of a plan that has N numbers.
 pub(crate) trait PlanLine<const N: usize>: Copy {
-    ghost said: { List ℕ → Self };
+    ghost meant: { List ℕ → Self };
 
     fn from_numbers(numbers: [u64; N]) -> Self
-        ensures { result ≡ said numbers.entry };
+        ensures { result ≡ meant numbers.entry };
 }
 
 impl PlanLine<3> for Terms {
-    ghost said = { terms_of };
+    ghost meant = { terms_of };
 
     fn from_numbers(numbers: [u64; 3]) -> Terms
         ensures { result ≡ terms_of numbers }
@@ -54,7 +59,7 @@ impl PlanLine<3> for Terms {
 }
 
 impl PlanLine<4> for Filing {
-    ghost said = { filing_of };
+    ghost meant = { filing_of };
 
     fn from_numbers(numbers: [u64; 4]) -> Filing
         ensures { result ≡ filing_of numbers }
@@ -70,7 +75,7 @@ impl PlanLine<4> for Filing {
 }
 
 impl PlanLine<2> for Withdrawal {
-    ghost said = { withdrawal_of };
+    ghost meant = { withdrawal_of };
 
     fn from_numbers(numbers: [u64; 2]) -> Withdrawal
         ensures { result ≡ withdrawal_of numbers }

@@ -1,6 +1,7 @@
 ghost use Rattle.std.specs.Prelude.{IfOk, Ok};
+ghost use Rattle.plan.specs.Readers.{Answers};
 ghost use Rattle.plan.specs.Plans.{Lists, lists};
-ghost use Rattle.plan.specs.Reading.{plan_of, read_plan, or_broken, Answers};
+ghost use Rattle.plan.specs.Reading.{plan_of, read_plan, or_broken};
 ghost use Rattle.plan.specs.Writing.{Writes};
 
 use crate::faults::ReadError;
