@@ -17,11 +17,6 @@ const OUT_OF_RANGE: [Broken; 13] = [
     (b"1\n0 0 0\n0\n18446744073709551616\n", 4, 1),
 ];
 
-#[test]
-fn out_of_range(rt: HostRuntime) {
-    check_broken(&rt, rt.alloc(), &OUT_OF_RANGE);
-}
-
 // The greatest counts, with too few lines after.
 const GREATEST: [Broken; 9] = [
     (b"64\n", 2, 1),
@@ -34,11 +29,6 @@ const GREATEST: [Broken; 9] = [
     (b"1\n0 0 0\n0\n256\n0 0\n0 1\n", 7, 1),
     (b"1\n0 0 0\n0\n256\n0 0\n0\n", 6, 2),
 ];
-
-#[test]
-fn greatest(rt: HostRuntime) {
-    check_broken(&rt, rt.alloc(), &GREATEST);
-}
 
 // Counts other than of the lines that follow. What the lines are then read as shows the break: the count of another section, or a line of
 // the same.
@@ -55,11 +45,6 @@ const NOT_OF_THE_LINES: [Broken; 10] = [
     (b"2\n5 6 7\n8 9 10\n1\n11 1 12 13\n256\n14 1\n", 8, 1),
 ];
 
-#[test]
-fn not_of_the_lines(rt: HostRuntime) {
-    check_broken(&rt, rt.alloc(), &NOT_OF_THE_LINES);
-}
-
 // A count out of its range comes before a surplus field.
 const OUT_OF_RANGE_WITH_SURPLUS: [Broken; 7] = [
     (b"0 1\n0 0 0\n0\n0\n", 1, 1),
@@ -72,6 +57,13 @@ const OUT_OF_RANGE_WITH_SURPLUS: [Broken; 7] = [
 ];
 
 #[test]
-fn out_of_range_with_surplus(rt: HostRuntime) {
-    check_broken(&rt, rt.alloc(), &OUT_OF_RANGE_WITH_SURPLUS);
+fn broken_counts(rt: HostRuntime) {
+    for table in [
+        OUT_OF_RANGE.as_slice(),
+        GREATEST.as_slice(),
+        NOT_OF_THE_LINES.as_slice(),
+        OUT_OF_RANGE_WITH_SURPLUS.as_slice(),
+    ] {
+        check_broken(&rt, rt.alloc(), table);
+    }
 }

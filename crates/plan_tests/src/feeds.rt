@@ -13,11 +13,6 @@ const NEARLY_NOTHING: [Broken; 9] = [
     (b"1 ", 1, 2),
 ];
 
-#[test]
-fn nearly_nothing(rt: HostRuntime) {
-    check_broken(&rt, rt.alloc(), &NEARLY_NOTHING);
-}
-
 // Bytes that end too soon.
 const CUT_OFF: [Broken; 22] = [
     (b"2", 1, 1),
@@ -44,11 +39,6 @@ const CUT_OFF: [Broken; 22] = [
     (b"1\n0 0 0\n0\n0", 4, 1),
 ];
 
-#[test]
-fn cut_off(rt: HostRuntime) {
-    check_broken(&rt, rt.alloc(), &CUT_OFF);
-}
-
 // Nothing may come after the last line.
 const GOES_ON: [Broken; 11] = [
     (b"1\n0 0 0\n0\n0\n\n", 5, 1),
@@ -64,11 +54,6 @@ const GOES_ON: [Broken; 11] = [
     (b"1\n0 0 0\n0\n0\n1\n0 0 0\n0\n0\n", 5, 1),
 ];
 
-#[test]
-fn goes_on(rt: HostRuntime) {
-    check_broken(&rt, rt.alloc(), &GOES_ON);
-}
-
 const CARRIAGE_RETURNS: [Broken; 11] = [
     (b"1\r\n0 0 0\r\n0\r\n0\r\n", 1, 1),
     (b"2\r5 6 7\r8 9 10\r1\r11 1 12 13\r1\r14 1\r", 1, 1),
@@ -82,11 +67,6 @@ const CARRIAGE_RETURNS: [Broken; 11] = [
     (b"2\n5 6 7\n8 9 10\n1\n11 1 12 13\n1\n14 1\r\n", 7, 2),
     (b"2\n5 6 7\n8 9 10\n1\n11 1 12 13\n1\n14 1\r", 7, 2),
 ];
-
-#[test]
-fn carriage_returns(rt: HostRuntime) {
-    check_broken(&rt, rt.alloc(), &CARRIAGE_RETURNS);
-}
 
 // Two lines that were made one, by a space or by nothing.
 const JOINED: [Broken; 11] = [
@@ -103,11 +83,6 @@ const JOINED: [Broken; 11] = [
     (b"2\n5 6 7\n8 9 10\n1\n11 1 12 13\n114 1\n", 6, 2),
 ];
 
-#[test]
-fn joined(rt: HostRuntime) {
-    check_broken(&rt, rt.alloc(), &JOINED);
-}
-
 // A line feed in the place of a space, or within a number.
 const PARTED: [Broken; 8] = [
     (b"2\n5\n6 7\n8 9 10\n1\n11 1 12 13\n1\n14 1\n", 2, 2),
@@ -121,6 +96,15 @@ const PARTED: [Broken; 8] = [
 ];
 
 #[test]
-fn parted(rt: HostRuntime) {
-    check_broken(&rt, rt.alloc(), &PARTED);
+fn broken_line_ends(rt: HostRuntime) {
+    for table in [
+        NEARLY_NOTHING.as_slice(),
+        CUT_OFF.as_slice(),
+        GOES_ON.as_slice(),
+        CARRIAGE_RETURNS.as_slice(),
+        JOINED.as_slice(),
+        PARTED.as_slice(),
+    ] {
+        check_broken(&rt, rt.alloc(), table);
+    }
 }

@@ -19,11 +19,6 @@ const EMPTY_FIELDS: [Broken; 15] = [
     (b"2\n5 6 7\n8 9 10\n1\n11 1 12 13\n1\n14 \n", 7, 2),
 ];
 
-#[test]
-fn empty_fields(rt: HostRuntime) {
-    check_broken(&rt, rt.alloc(), &EMPTY_FIELDS);
-}
-
 const MISSING_FIELDS: [Broken; 13] = [
     (b"\n5 6 7\n8 9 10\n1\n11 1 12 13\n1\n14 1\n", 1, 1),
     (b"2\n\n8 9 10\n1\n11 1 12 13\n1\n14 1\n", 2, 1),
@@ -39,11 +34,6 @@ const MISSING_FIELDS: [Broken; 13] = [
     (b"2\n5 6 7\n8 9 10\n1\n11 1 12 13\n1\n\n", 7, 1),
     (b"2\n5 6 7\n8 9 10\n1\n11 1 12 13\n1\n14\n", 7, 2),
 ];
-
-#[test]
-fn missing_fields(rt: HostRuntime) {
-    check_broken(&rt, rt.alloc(), &MISSING_FIELDS);
-}
 
 // A trailing space is followed by an empty surplus field.
 const SURPLUS_FIELDS: [Broken; 17] = [
@@ -67,6 +57,12 @@ const SURPLUS_FIELDS: [Broken; 17] = [
 ];
 
 #[test]
-fn surplus_fields(rt: HostRuntime) {
-    check_broken(&rt, rt.alloc(), &SURPLUS_FIELDS);
+fn broken_fields(rt: HostRuntime) {
+    for table in [
+        EMPTY_FIELDS.as_slice(),
+        MISSING_FIELDS.as_slice(),
+        SURPLUS_FIELDS.as_slice(),
+    ] {
+        check_broken(&rt, rt.alloc(), table);
+    }
 }

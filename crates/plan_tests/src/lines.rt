@@ -13,11 +13,6 @@ const MISSING_LINES: [Broken; 9] = [
     (b"1\n11 1 12 13\n1\n14 1\n", 2, 4),
 ];
 
-#[test]
-fn missing_lines(rt: HostRuntime) {
-    check_broken(&rt, rt.alloc(), &MISSING_LINES);
-}
-
 const SURPLUS_LINES: [Broken; 8] = [
     (b"2\n2\n5 6 7\n8 9 10\n1\n11 1 12 13\n1\n14 1\n", 2, 2),
     (b"2\n5 6 7\n5 6 7\n8 9 10\n1\n11 1 12 13\n1\n14 1\n", 4, 2),
@@ -28,11 +23,6 @@ const SURPLUS_LINES: [Broken; 8] = [
     (b"2\n5 6 7\n8 9 10\n1\n14 1\n1\n11 1 12 13\n", 5, 3),
     (b"1\n11 1 12 13\n2\n5 6 7\n8 9 10\n1\n14 1\n", 2, 4),
 ];
-
-#[test]
-fn surplus_lines(rt: HostRuntime) {
-    check_broken(&rt, rt.alloc(), &SURPLUS_LINES);
-}
 
 const EMPTY_LINES: [Broken; 7] = [
     (b"\n2\n5 6 7\n8 9 10\n1\n11 1 12 13\n1\n14 1\n", 1, 1),
@@ -45,6 +35,12 @@ const EMPTY_LINES: [Broken; 7] = [
 ];
 
 #[test]
-fn empty_lines(rt: HostRuntime) {
-    check_broken(&rt, rt.alloc(), &EMPTY_LINES);
+fn broken_lines(rt: HostRuntime) {
+    for table in [
+        MISSING_LINES.as_slice(),
+        SURPLUS_LINES.as_slice(),
+        EMPTY_LINES.as_slice(),
+    ] {
+        check_broken(&rt, rt.alloc(), table);
+    }
 }

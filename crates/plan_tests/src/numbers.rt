@@ -19,11 +19,6 @@ const LEADING_ZEROS: [Broken; 15] = [
     (b"1\n0 0 0000000000000000000000000\n0\n0\n", 2, 3),
 ];
 
-#[test]
-fn leading_zeros(rt: HostRuntime) {
-    check_broken(&rt, rt.alloc(), &LEADING_ZEROS);
-}
-
 const LETTERS: [Broken; 9] = [
     (b"x\n5 6 7\n8 9 10\n1\n11 1 12 13\n1\n14 1\n", 1, 1),
     (b"2x\n5 6 7\n8 9 10\n1\n11 1 12 13\n1\n14 1\n", 1, 1),
@@ -35,11 +30,6 @@ const LETTERS: [Broken; 9] = [
     (b"2\n5 6 7\n8 9 10\n1\n11 1 12 13\n1\n0x14 1\n", 7, 1),
     (b"2\n5 6 7\n8 9 10\n1\n11 1 12 13\n1\n14 one\n", 7, 2),
 ];
-
-#[test]
-fn letters(rt: HostRuntime) {
-    check_broken(&rt, rt.alloc(), &LETTERS);
-}
 
 const SIGNS_AND_POINTS: [Broken; 13] = [
     (b"+2\n5 6 7\n8 9 10\n1\n11 1 12 13\n1\n14 1\n", 1, 1),
@@ -56,11 +46,6 @@ const SIGNS_AND_POINTS: [Broken; 13] = [
     (b"2\n5 6 7\n8 9 10\n1\n11 1 12 13\n1\n14 +1\n", 7, 2),
     (b"2\n5 6 7\n8 9 10\n1\n11 1 12 13\n1\n14 -1\n", 7, 2),
 ];
-
-#[test]
-fn signs_and_points(rt: HostRuntime) {
-    check_broken(&rt, rt.alloc(), &SIGNS_AND_POINTS);
-}
 
 // The bytes beside the digits, the smallest and the largest bytes, spaces of other kinds, and digits that are no decimal ones of ASCII.
 const OTHER_BYTES: [Broken; 24] = [
@@ -90,11 +75,6 @@ const OTHER_BYTES: [Broken; 24] = [
     (b"2\n5 6 7\n8 9 10\n1\n11 1 12 13\n1\n14\t1\n", 7, 1),
 ];
 
-#[test]
-fn other_bytes(rt: HostRuntime) {
-    check_broken(&rt, rt.alloc(), &OTHER_BYTES);
-}
-
 // Among them 2 to the power of 64 and of 128, and numbers a little above and below.
 const ABOVE_THE_LAST_TICK: [Broken; 16] = [
     (b"1000000000001\n5 6 7\n0\n1\n8 9\n", 1, 1),
@@ -116,6 +96,14 @@ const ABOVE_THE_LAST_TICK: [Broken; 16] = [
 ];
 
 #[test]
-fn above_the_last_tick(rt: HostRuntime) {
-    check_broken(&rt, rt.alloc(), &ABOVE_THE_LAST_TICK);
+fn broken_numbers(rt: HostRuntime) {
+    for table in [
+        LEADING_ZEROS.as_slice(),
+        LETTERS.as_slice(),
+        SIGNS_AND_POINTS.as_slice(),
+        OTHER_BYTES.as_slice(),
+        ABOVE_THE_LAST_TICK.as_slice(),
+    ] {
+        check_broken(&rt, rt.alloc(), table);
+    }
 }

@@ -26,11 +26,6 @@ const ON_ONE_LINE: [Broken; 22] = [
     (b"2\n5 6 7\n8 9 10\n1\n11 1 12 13\n1\nx", 7, 1),
 ];
 
-#[test]
-fn on_one_line(rt: HostRuntime) {
-    check_broken(&rt, rt.alloc(), &ON_ONE_LINE);
-}
-
 const ON_TWO_LINES: [Broken; 16] = [
     (b"02\n05 6 7\n8 9 10\n1\n11 1 12 13\n1\n14 1\n", 1, 1),
     (b"2 \n5 6\n8 9 10\n1\n11 1 12 13\n1\n14 1\n", 1, 2),
@@ -51,6 +46,8 @@ const ON_TWO_LINES: [Broken; 16] = [
 ];
 
 #[test]
-fn on_two_lines(rt: HostRuntime) {
-    check_broken(&rt, rt.alloc(), &ON_TWO_LINES);
+fn two_faults(rt: HostRuntime) {
+    for table in [ON_ONE_LINE.as_slice(), ON_TWO_LINES.as_slice()] {
+        check_broken(&rt, rt.alloc(), table);
+    }
 }
