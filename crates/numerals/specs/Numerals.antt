@@ -2,6 +2,7 @@
 use Rattle.std.specs.Prelude.{ℕ, ◌+◌, ◌-◌, ◌*◌, ◌^◌, min, List, [], ◌∷◌, length, Some, None, Option, if◌then◌else◌, ◌==◌}
 use Rattle.std.specs.Str.{all_ascii_digits}
 
+-- the largest number of 64 bits
 abbrev pub largest : ℕ
 largest = 2 ^ 64 - 1
 

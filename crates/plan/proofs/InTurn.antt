@@ -82,7 +82,7 @@ module _ (span : Span) (line n : ℕ) where
       let same : i ≡ n = omega arith in
       sym so_far.0 ∙ rw (next, none, (first_field text.now).2, same) refl
 
--- these first, and then what lines say
+-- these first, and then what lines mean
 abbrev pub with_lines : {T : Type 0} → List T → Result (List T × Left) Break → Result (List T × Left) Break
 with_lines done read = read >>= λ more. Ok (done ++ more.0, more.1)
 
@@ -91,12 +91,12 @@ with_line : {T : Type 0} (done : List T) (x : T) (read : Result (List T × Left)
 with_line done x (Ok b) = ap (λ xs. Ok (xs, b.1)) (sym (append_assoc done (x ∷ []) b.0))
 with_line done x (Err b) = refl
 
--- Of the lines from s on, n of them in all, the first i have meant xs; with what those say that are left they say all, or the first break is left.
+-- Of n lines from s on the first i are read and mean xs, and now is left; with what the others mean that is all, or the first break is left.
 unfoldable pub HaveLines : {T : Type 0} → (List ℕ → T) → ℕ → ℕ → Left → List T → Left → ℕ → Type 0
 HaveLines meant width n s xs now i = with_lines xs (lines meant width (n - i) now) ≡ lines meant width n s
 
 module _ {T : Type 0} (meant : List ℕ → T) (width n : ℕ) (s : Left) where
-  -- none has meant anything
+  -- none is read
   pub no_line : HaveLines meant width n s [] s 0
   unfolding HaveLines
   no_line = rw (none_off) (only (lines meant width n s)) where
@@ -124,7 +124,7 @@ module _ {T : Type 0} (meant : List ℕ → T) (width n : ℕ) (s : Left) where
       let k : n - i ≡ suc (n - (i + 1)) = omega arith in
       sym so_far ∙ rw (k, next) refl
 
-  -- all have meant theirs
+  -- all are read
   pub all_lines : (i : ℕ) (xs : List T) (now : Left) → HaveLines meant width n s xs now i → n ≤ i → lines meant width n s ≡ Ok (xs, now)
   unfolding HaveLines
   all_lines i xs now so_far done =

@@ -14,6 +14,7 @@ pub struct Break {
 // Why there is no plan.
 #[derive(Clone, Copy, PartialEq, Eq, Debug, Error)]
 pub enum ReadError {
+    // more bytes than a plan may have
     #[error("too long for a plan")]
     TooLong,
     #[error("line {} breaks the form of a plan at field {}", .0.line, .0.field)]

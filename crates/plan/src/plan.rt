@@ -3,7 +3,7 @@ ghost use Rattle.plan.specs.Plans.{terms_of, filing_of, withdrawal_of};
 
 // The numbers of a plan are only read: whether they are lawful as rates, labs or lengths is not asked.
 
-// The terms of a lab's server row: thousandths per tick, and twice thousandths of a tick.
+// The terms of a lab's server row: its rate in thousandths per tick, its ceiling and threshold in thousandths of a tick.
 #[derive(Clone, Copy, PartialEq, Eq, Debug)]
 pub struct Terms {
     pub rate: u64,
@@ -11,7 +11,7 @@ pub struct Terms {
     pub threshold: u64,
 }
 
-// What a lab is to file, and at which tick; length and due are in ticks.
+// An import that a lab is to file, and at which tick: how many ticks it is to take, and by which tick it is due.
 #[derive(Clone, Copy, PartialEq, Eq, Debug)]
 pub struct Filing {
     pub tick: u64,
