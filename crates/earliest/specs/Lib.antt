@@ -1,4 +1,5 @@
 pub mod Heap
 pub mod HeapOrder
+pub mod Numbers
 pub mod Order
 pub mod Sorted

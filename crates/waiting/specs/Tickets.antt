@@ -1,27 +1,14 @@
 -- The order of the tickets of a lab.
-use Rattle.std.specs.Prelude.{◌≡◌, ℕ, Bool, true, false, ◌&&◌, ◌||◌, nat_lt, nat_eq}
+use Rattle.std.specs.Prelude.{◌≡◌, Bool, true, false}
 use Rattle.std.proofs.Common.{arith}
+use Rattle.earliest.specs.Numbers.{first_by, chained, decided}
 use Rattle.earliest.specs.Order.{IsStrictTotalOrder}
 use Rattle.waiting.specs.declared.ticket.Ticket.{Ticket}
-
--- the smaller of two numbers comes first; where they are equal, the rest decides
-unfoldable pub first_by : ℕ → ℕ → Bool → Bool
-first_by m n rest = nat_lt m n || nat_eq m n && rest
 
 -- by key, then by number, then by everything else that a ticket holds
 unfoldable pub ticket_before : Ticket → Ticket → Bool
 ticket_before a b =
     first_by a.key b.key (first_by a.number b.number (first_by a.lab b.lab (first_by a.filed b.filed (first_by a.length b.length (first_by a.due b.due false)))))
-
--- of three numbers in turn, with what decides where they are equal
-chained : (k m n : ℕ) (r s t : Bool) → (r ≡ true → s ≡ true → t ≡ true) → first_by k m r ≡ true → first_by m n s ≡ true → first_by k n t ≡ true
-unfolding first_by
-chained k m n r s t rest first second = grind arith
-
--- where neither comes first, the numbers are equal and the rest decides
-decided : (m n : ℕ) (r s : Bool) → first_by m n r ≡ false → first_by n m s ≡ false → (m ≡ n) × (r ≡ false) × (s ≡ false)
-unfolding first_by
-decided m n r s first second = (grind arith, grind arith, grind arith)
 
 -- two tickets of which neither comes before the other are equal in every number
 same : (x y : Ticket) → ticket_before x y ≡ false → ticket_before y x ≡ false → x ≡ y

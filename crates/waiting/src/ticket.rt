@@ -46,7 +46,7 @@ impl StrictTotalOrder for Ticket {
 
     ghost strict_total = { ticket_order };
 
-    #[tactic(auto, unfolding(crate::specs::Tickets::ticket_before, crate::specs::Tickets::first_by))]
+    #[tactic(auto, unfolding(crate::specs::Tickets::ticket_before, earliest::specs::Numbers::first_by))]
     fn is_before(&self, other: &Self) -> bool {
         self.rank() < other.rank()
     }
