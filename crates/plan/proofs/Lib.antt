@@ -1,4 +1,4 @@
 mod Cuts
 mod InTurn
-mod RoundTrip
+pub mod RoundTrip
 mod Spelling

@@ -1,0 +1,2 @@
+pub mod Events
+pub mod Happening

@@ -1,0 +1,6 @@
+// The events of a play, earliest first.
+#![tactic(auto)]
+
+pub mod agenda;
+pub mod event;
+mod places;

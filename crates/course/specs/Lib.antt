@@ -1,0 +1,4 @@
+pub mod Asking
+pub mod Printing
+pub mod Course
+pub mod Playing
