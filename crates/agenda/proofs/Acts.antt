@@ -95,15 +95,10 @@ module _ {R T : Type 0} (row : Meaning R) (turn : Turns T) (p : Lists) where
       ∙ ap (fold (ask row turn) s) (sym (filter-append (λ a. tick_of a.call == t) to_withdraw to_file))
 
   -- the end that is due and what the plan's events do at tick t are all that happens before a begin
-  pub bridge : (t : ℕ) (s : Stage R T) → fold (happens row turn p) s (ends t s.moment.gate.running ++ acts_at t (plan_events p))
+  pub bridge : (t : ℕ) (s : Stage R T) → happen row turn p s (ends t s.moment.gate.running ++ acts_at t (plan_events p))
       ≡ fold (ask row turn) (end_due row turn t s) (asked_at p t)
+  unfolding happen
   bridge t s =
       fold-append (happens row turn p) s (ends t s.moment.gate.running) (acts_at t (plan_events p))
       ∙ ap (λ r. fold (happens row turn p) r (acts_at t (plan_events p))) (end_happens t s s.moment.gate.running refl)
       ∙ plan_happens t (end_due row turn t s)
-
-  -- the same of events that happen
-  pub happen_bridge : (t : ℕ) (s : Stage R T) → happen row turn p s (ends t s.moment.gate.running ++ acts_at t (plan_events p))
-      ≡ fold (ask row turn) (end_due row turn t s) (asked_at p t)
-  unfolding happen
-  happen_bridge t s = bridge t s

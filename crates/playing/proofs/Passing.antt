@@ -32,8 +32,9 @@ use Rattle.course.proofs.Lengths.{lawful_asked, lawful_kept, began_lawful}
 use Rattle.agenda.specs.declared.event.Event.{Event}
 use Rattle.agenda.specs.Events.{event_before, first_events, plan_events, end_at, begin_at, head_at, after_head}
 use Rattle.agenda.specs.Happening.{happen, with_event, scheduled}
-use Rattle.agenda.proofs.Acts.{acts_at, ends, happen_bridge}
+use Rattle.agenda.proofs.Acts.{acts_at, ends, bridge}
 use Rattle.agenda.proofs.Ascending.{Ascend, ascends, inserted_ascends, acts_first, begin_put, end_put, end_put_other, begin_first, first_events_by, inserted_all, inserted_there, later_ticks}
+use Rattle.agenda.proofs.Taking.{no_more}
 use Rattle.agenda.proofs.Heads.{after_keeps, after_ascends, after_later, after_acts, head_acts, none_at}
 use Rattle.playing.specs.Stages.{IsLawful, IsFresh}
 
@@ -107,16 +108,11 @@ module _ {R T : Type 0} (row : Meaning R) (turn : Turns T) (p : Lists) where
 
   -- ---- ticks at which nothing happens
 
-  -- no event at all does nothing
-  happen_none : (s : Stage R T) → happen row turn p s [] ≡ s
-  unfolding happen
-  happen_none s = refl
-
   -- a tick that all events come after
   quiet : {whole : List ℕ} {s : Stage R T} {es : List Event} {t : ℕ} → At whole s es t → (v : ℕ) → t ≤ v → v ≤ last → All (λ e. v + 1 ≤ e.tick) es
       → Quiet row turn p v s
   quiet {whole} {s} {es} at v low high later = record {
-    still = sym (happen_bridge row turn p v s) ∙ ap (happen row turn p s) (sym (at.agree v low high) ∙ none_at v es later) ∙ happen_none s;
+    still = sym (bridge row turn p v s) ∙ ap (happen row turn p s) (sym (at.agree v low high) ∙ none_at v es later) ∙ no_more row turn p s [] refl;
     cannot_begin = at.idle v low high (λ w there. let after = All-contains (λ e. v + 1 ≤ e.tick) es (begin_at w) later there in omega (arith, after));
   }
 
@@ -179,7 +175,7 @@ module _ {R T : Type 0} (row : Meaning R) (turn : Turns T) (p : Lists) where
     happened =
         head_acts row turn p s now (e ∷ es) at.ascend none_earlier
         ∙ ap (happen row turn p s) (at.agree now low_now high_now)
-        ∙ happen_bridge row turn p now s
+        ∙ bridge row turn p now s
 
     -- nothing happens at the ticks before it
     nothing_before : (v : ℕ) → t ≤ v → v < now → Quiet row turn p v s
