@@ -24,15 +24,16 @@ fn two_imports(rt: HostRuntime) {
     assert!(rt; rows[0].able());
 }
 
-// A first run of 2 ticks leaves exactly nothing, which is enough, or a little debt, which is not.
+// A first run that holds 2 ticks of its 3 leaves exactly nothing, which is enough, or a little debt, which is not.
 #[test]
 fn nothing_and_a_little_debt(rt: HostRuntime) {
     for (tick, level, wake) in [(8, 0, 0), (7, -200, 6)] {
         let mut rows = [SERVER];
         let mut gate = opened(&rt, &mut rows);
         let steps = [
-            (File(0, 0, 2, NO_DUE), Filed(1)),
-            (Begin(tick), Began(0, 1, 2)),
+            (File(0, 0, 3, NO_DUE), Filed(1)),
+            (File(0, 0, 1, NO_DUE), Filed(2)),
+            (Begin(tick), Began(0, 1, 3)),
             (End(tick + 2), Ended(1, 2, tick + 2)),
         ];
         follow(&rt, &mut gate, &mut rows, &steps);
