@@ -9,9 +9,9 @@ use Rattle.waiting.specs.Queues.{none_waiting}
 use Rattle.waiting.specs.Tickets.{ticket_before}
 use Rattle.history.specs.Gates.{rest_others}
 use Rattle.history.specs.Standing.{stands, smallest_below, is_ahead_of_others, leader}
-use Rattle.examples.specs.Cases.{cases, by_definition, in_table, AllStand}
+use Rattle.examples.specs.Cases.{cases, by_definition, in_table, AllAsDefined}
 
--- two functions that make the same list of a list agree on each of its entries
+-- two functions that make the same list of one list agree on each of its entries
 agree_on_each : {A B : Type 0} (f g : A → B) (xs : List A) → map f xs ≡ map g xs → All (λ x. f x ≡ g x) xs
 agree_on_each f g xs same k d low = sym (get_or-map f xs k d (f d) low) ∙ ap (λ ys. get_or ys k (f d)) same ∙ get_or-map g xs k d (f d) low
 
@@ -19,5 +19,7 @@ table_computed : map (map by_definition) cases ≡ map (map in_table) cases
 unfolding cases from_to standing_at in_order inserted first_by ticket_before none_waiting rest_others stands smallest_below is_ahead_of_others leader
 table_computed = refl
 
-pub all_stand : AllStand
-all_stand n none low = agree_on_each by_definition in_table (get_or cases n none) (agree_on_each (map by_definition) (map in_table) cases table_computed n none low)
+pub all_as_defined : AllAsDefined
+all_as_defined n none low =
+    let same = agree_on_each (map by_definition) (map in_table) cases table_computed in
+    agree_on_each by_definition in_table (get_or cases n none) (same n none low)

@@ -1,11 +1,11 @@
 ghost use Rattle.std.specs.Prelude.{◌≡◌, length};
-ghost use Rattle.examples.specs.Cases.{cases, AllStand};
+ghost use Rattle.examples.specs.Cases.{cases, AllAsDefined};
 
-// How many cases are worked. Every fact of each of them stands.
-#[tactic(auto, using(crate::proofs::Reading::all_stand), unfolding(crate::specs::Cases::cases))]
+// How many cases the table has. Each of their figures is what the definitions give.
+#[tactic(auto, using(crate::proofs::Reading::all_as_defined), unfolding(crate::specs::Cases::cases))]
 pub fn count_cases() -> u64
     ensures count { result ≡ length cases }
-    ensures stand { AllStand }
+    ensures as_defined { AllAsDefined }
 {
     10
 }

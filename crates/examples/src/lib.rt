@@ -1,4 +1,4 @@
-// The worked cases of the rules, as one table that is proved.
+// Ten worked cases of the rules, as one table that is proved.
 #![tactic(auto)]
 
 pub mod cases;
