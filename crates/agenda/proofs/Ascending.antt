@@ -2,7 +2,7 @@
 use Rattle.std.proofs.Common.{◌≡◌, ℕ, suc, ◌+◌, ◌≤◌, true, false, ◌&&◌, ◌==◌, List, [], ◌∷◌, ◌++◌, map, All, Contains, IsPermutation, refl, sym, ap, subst, ◌∙◌, arith, ⊎_elim}
 use Rattle.std.specs.List.Sorted.{IsSortedBy}
 use Rattle.std.proofs.lemmas.Bool.{cases_Bool, ne_eqb, eq-eqb, eqb-true, and_parts}
-use Rattle.std.proofs.lemmas.List.Elements.{All-nil, All-cons, All-head, All-tail, All-append, All-weaker, All-filter, All-contains, filter_passes, filter-append, Contains-append_right}
+use Rattle.std.proofs.lemmas.List.Elements.{All-nil, All-cons, All-head, All-tail, All-append, All-weaker, All-filter, filter_passes, filter-append}
 use Rattle.std.proofs.lemmas.List.Sorted.{All-permutation, Contains-permutation, sorted_far}
 use Rattle.earliest.specs.Order.{NoneBefore}
 use Rattle.earliest.specs.Numbers.{first_by}
@@ -204,10 +204,6 @@ inserted_all P e es all one = All-permutation P _ _ (inserted_same event_before 
 pub inserted_there : (e : Event) (es : List Event) → Contains (inserted event_before e es) e
 inserted_there e es = Contains-permutation _ _ e (inserted_same event_before e es) (0, omega arith, refl)
 
--- and those that were there still are
-pub inserted_keeps : (e : Event) (es : List Event) (x : Event) → Contains es x → Contains (inserted event_before e es) x
-inserted_keeps e es x there = Contains-permutation _ _ x (inserted_same event_before e es) (Contains-append_right (e ∷ []) es x there)
-
 not_before : (x y : Event) → event_before x y ≡ false → y.tick ≤ x.tick
 unfolding event_before first_by
 not_before x y none = grind (arith, none)
@@ -215,8 +211,3 @@ not_before x y none = grind (arith, none)
 -- no event that comes later has an earlier tick
 pub later_ticks : (e : Event) (es : List Event) → Ascend (e ∷ es) → All (λ x. e.tick ≤ x.tick) es
 later_ticks e es up = All-weaker (λ x. event_before x e ≡ false) (λ x. e.tick ≤ x.tick) (λ x none. not_before x e none) es up.0
-
--- the first has the earliest tick
-pub first_tick : (e : Event) (es : List Event) (x : Event) → Ascend (e ∷ es) → Contains (e ∷ es) x → e.tick ≤ x.tick
-first_tick e es x up there =
-    All-contains (λ y. e.tick ≤ y.tick) (e ∷ es) x (All-cons (λ y. e.tick ≤ y.tick) e es (omega arith) (later_ticks e es up)) there

@@ -1,5 +1,5 @@
 -- What comes next on one row alone: imports in order, each begun as soon as the row is able and lasting as declared.
-use Rattle.std.specs.Prelude.{◌≡◌, ℕ, zero, suc, ◌+◌, ◌-◌, ◌/◌, ◌%◌, ◌<◌, ◌≤◌, true, false, List, [], ◌∷◌, ◌++◌, length, drop}
+use Rattle.std.specs.Prelude.{◌≡◌, ℕ, zero, suc, ◌+◌, ◌-◌, ◌/◌, ◌%◌, ◌<◌, ◌≤◌, true, false, List, [], ◌∷◌}
 use Rattle.measures.specs.Limits.{last}
 use Rattle.budget.specs.Meaning.{Meaning}
 
@@ -45,7 +45,3 @@ module _ {R : Type 0} (row : Meaning R) where
   AllSoonest x t [] (s ∷ ss) = ⊥
   AllSoonest x t (c ∷ cs) [] = ⊥
   AllSoonest x t (c ∷ cs) (s ∷ ss) = Soonest x t c s × AllSoonest (row.ended (rest_long x (s.start - t)) c) s.end cs ss
-
--- a list whose first places are written over
-abbrev pub written_over : {A : Type 0} → List A → List A → List A
-written_over new old = new ++ drop (length new) old

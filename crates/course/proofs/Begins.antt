@@ -18,17 +18,13 @@ use Rattle.history.specs.Guaranteed.{Starts}
 use Rattle.history.proofs.Lists.{element}
 use Rattle.history.proofs.Resting.{length-rest_others, rest_at}
 use Rattle.history.proofs.Leading.{smallest_none, smallest_past, smallest_first, smallest_lesser, stands_able, stands_waits, stands_from, leader_leads, some_leads}
-use Rattle.history.proofs.Effects.{Passed, passed_to}
+use Rattle.history.proofs.Effects.{Passed, passed_to, none_there}
 use Rattle.history.proofs.Keeping.{none_told, same_begun}
 use Rattle.course.specs.Course.{Stage, begun}
 use Rattle.course.proofs.Later.{BeginDoes, was_denied, none_began, run_began, begin_does}
 use Rattle.course.proofs.Quiet.{CannotBegin}
 
 -- what the test of an option says
-is_free : {A : Type 0} (o : Option A) → is_some o ≡ false → o ≡ None
-is_free None free = refl
-is_free (Some a) free = absurd (true≢false free)
-
 some_there : {A : Type 0} (o : Option A) → is_some o ≡ true → (a : A) × (o ≡ Some a)
 some_there None there = absurd (true≢false (sym there))
 some_there (Some a) there = (a, refl)
@@ -150,8 +146,8 @@ module _ {R T : Type 0} (row : Meaning R) (turn : Turns T) where
       free : {answer : Result Turn Refusal} {left : Moment R T} → BeginDoes row turn s.moment t answer left → answer ≡ Ok told
           → s.moment.gate.running ≡ None
       free (was_denied r) e = absurd (let z : ◌≡◌ {A = ℕ} 0 1 = cc in omega arith)
-      free (none_began (table, (time, (held, rest))) none) e = is_free s.moment.gate.running held
-      free (run_began k ticket (table, (time, (held, rest))) next) e = is_free s.moment.gate.running held
+      free (none_began (table, (time, (held, rest))) none) e = none_there s.moment.gate.running held
+      free (run_began k ticket (table, (time, (held, rest))) next) e = none_there s.moment.gate.running held
 
   -- a begin that starts an import leaves it running: it began at this tick, and lasts as the answer says
   pub began_runs : (s : Stage R T) (t k n c : ℕ) → (begins row turn s.moment.gate s.moment.rows t).answer ≡ Ok (Began k n c)
@@ -234,7 +230,7 @@ module _ {R T : Type 0} {row : Meaning R} (sentences : Sentences row) (turn : Tu
       waits (run_began k ticket passed next) e = absurd (let z : ◌≡◌ {A = ℕ} 0 1 = cc in omega arith)
       waits (none_began passed none) e =
           let (table, (time, (held, rest))) = passed in
-          let free = is_free s.moment.gate.running held in
+          let free = none_there s.moment.gate.running held in
           let g = at_tick s.moment.gate t in
           let rows = rested_to row s.moment.gate s.moment.rows t in
           let (v, least, at) = told_wait t w (smallest_wake row g rows) cc in
@@ -264,7 +260,7 @@ module _ {R T : Type 0} {row : Meaning R} (sentences : Sentences row) (turn : Tu
       none_waits (run_began k ticket passed next) e = absurd (let z : ◌≡◌ {A = ℕ} 0 1 = cc in omega arith)
       none_waits (none_began passed none) e =
           let (table, (time, (held, rest))) = passed in
-          let free = is_free s.moment.gate.running held in
+          let free = none_there s.moment.gate.running held in
           let none_least = told_nothing t (smallest_wake row (at_tick s.moment.gate t) (rested_to row s.moment.gate s.moment.rows t)) cc in (
             free,
             λ u begins.

@@ -12,7 +12,7 @@ use Rattle.history.specs.Histories.{Call, ToBegin, ToEnd, does}
 use Rattle.plan.specs.Plans.{Lists}
 use Rattle.course.specs.Asking.{Asked, asked_at}
 use Rattle.course.specs.Printing.{ended}
-use Rattle.course.specs.Course.{Stage, ends_at, called, ask, end_due, at_tick}
+use Rattle.course.specs.Course.{Stage, ends_at, called, ask, end_due, tick_passed}
 
 -- a step leaves the gate that it found, or where it is granted another
 pub step_keeps : {A R T : Type 0} (P : GateState T → Type 0) (g left : GateState T) (rows left_rows : List R) (answer : Result A Refusal)
@@ -42,5 +42,5 @@ module _ {R T : Type 0} (row : Meaning R) (turn : Turns T) (P : GateState T → 
   asked_keeps p s t found = asks_keep (asked_at p t) (end_due row turn t s) (end_keeps t s found)
 
   -- and after it
-  pub tick_keeps : (p : Lists) (s : Stage R T) (t : ℕ) → P s.moment.gate → P (at_tick row turn p t s).moment.gate
+  pub tick_keeps : (p : Lists) (s : Stage R T) (t : ℕ) → P s.moment.gate → P (tick_passed row turn p t s).moment.gate
   tick_keeps p s t found = each (ToBegin t) (fold (ask row turn) (end_due row turn t s) (asked_at p t)).moment (asked_keeps p s t found)

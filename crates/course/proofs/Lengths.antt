@@ -20,7 +20,7 @@ use Rattle.outlook.specs.Outlooks.{AllLawful}
 use Rattle.outlook.proofs.Lawful.{lawful_come, lawful_begun, lawful_withdrawn}
 use Rattle.plan.specs.Plans.{Lists}
 use Rattle.course.specs.Asking.{asked_at}
-use Rattle.course.specs.Course.{Stage, ask, end_due, at_tick}
+use Rattle.course.specs.Course.{Stage, ask, end_due, tick_passed}
 use Rattle.course.proofs.Kept.{step_keeps, asked_keeps, tick_keeps}
 use Rattle.course.proofs.Later.{BeginDoes, was_denied, none_began, run_began, begin_does}
 
@@ -65,7 +65,7 @@ module _ {R T : Type 0} (row : Meaning R) (turn : Turns T) where
 
   -- and once the tick has passed
   pub lawful_kept : (p : Lists) (s : Stage R T) (t : ℕ) → AllLawful s.moment.gate.waiting
-      → AllLawful (at_tick row turn p t s).moment.gate.waiting
+      → AllLawful (tick_passed row turn p t s).moment.gate.waiting
   lawful_kept p s t all = tick_keeps row turn (λ g. AllLawful g.waiting) call_lawful p s t all
 
   -- the declared length of an import that begins is not 0, so it is not to end at the tick at which it begins

@@ -18,7 +18,7 @@ use Rattle.history.specs.Guaranteed.{Starts}
 use Rattle.plan.specs.Plans.{Lists}
 use Rattle.course.specs.Asking.{Asked, tick_of, filing_call, withdrawal_call, filings_line, withdrawals_line, on_lines, asked, asked_at}
 use Rattle.course.specs.Printing.{ended, refused}
-use Rattle.course.specs.Course.{Stage, ends_at, called, ask, end_due, begun, at_tick, ticks, printed_from}
+use Rattle.course.specs.Course.{Stage, ends_at, called, ask, end_due, begun, tick_passed, ticks, printed_from}
 use Rattle.course.proofs.Kept.{step_keeps, asked_keeps, tick_keeps}
 use Rattle.course.proofs.Later.{Alike, alike_itself, alike_later, alike_after, alike_idle}
 
@@ -75,7 +75,7 @@ module _ {R T : Type 0} (row : Meaning R) (turn : Turns T) where
       (λ no. rw no (asks_alike t asks a b alike))
       (cases_Bool (tick_of x.call == t))
 
-  tick_alike : (p : Lists) (t : ℕ) (a b : Stage R T) → AlikeStages t a b → AlikeStages t (at_tick row turn p t a) (at_tick row turn p t b)
+  tick_alike : (p : Lists) (t : ℕ) (a b : Stage R T) → AlikeStages t a b → AlikeStages t (tick_passed row turn p t a) (tick_passed row turn p t b)
   unfolding asked_at
   tick_alike p t a b alike =
       let before = asks_alike t (asked p) (end_due row turn t a) (end_due row turn t b) (end_alike t a b alike) in
@@ -83,7 +83,8 @@ module _ {R T : Type 0} (row : Meaning R) (turn : Turns T) where
       record { moment = left; printed = before.printed }
 
   -- a tick passes
-  pub passed : (p : Lists) (s : Stage R T) (t : ℕ) → t ≤ last → printed_from row turn p t s ≡ printed_from row turn p (suc t) (at_tick row turn p t s)
+  pub passed : (p : Lists) (s : Stage R T) (t : ℕ) → t ≤ last
+      → printed_from row turn p t s ≡ printed_from row turn p (suc t) (tick_passed row turn p t s)
   unfolding ticks
   passed p s t low =
       let left : last + 1 - t ≡ suc (last + 1 - suc t) = omega arith in
@@ -95,7 +96,7 @@ module _ {R T : Type 0} (row : Meaning R) (turn : Turns T) where
   all_passed p s = refl
 
   -- the clock is not above a tick that has passed
-  pub clock_within : (p : Lists) (s : Stage R T) (t : ℕ) → s.moment.gate.clock ≤ t → (at_tick row turn p t s).moment.gate.clock ≤ t
+  pub clock_within : (p : Lists) (s : Stage R T) (t : ℕ) → s.moment.gate.clock ≤ t → (tick_passed row turn p t s).moment.gate.clock ≤ t
   clock_within p s t low = (tick_alike p t s s (stage_itself s t low)).moment.reached
 
   -- nor is it after what the plan asks for at this tick
@@ -115,7 +116,7 @@ module _ {R T : Type 0} {row : Meaning R} (sentences : Sentences row) (turn : Tu
   unfolding ticks
   ticks_alike p zero v t a b alike later high = alike.printed
   ticks_alike p (suc n) v t a b alike later high =
-      ticks_alike p n t (suc t) (at_tick row turn p t a) (at_tick row turn p t b)
+      ticks_alike p n t (suc t) (tick_passed row turn p t a) (tick_passed row turn p t b)
       (tick_alike row turn p t a b (stages_later v t a b alike later (omega arith))) (omega arith) (omega arith)
 
   -- a quiet tick may be left out
@@ -190,5 +191,5 @@ module _ {R T : Type 0} (row : Meaning R) (turn : Turns T) where
   pub labs_asked : (p : Lists) (s : Stage R T) (t : ℕ) → (fold (ask row turn) (end_due row turn t s) (asked_at p t)).moment.gate.labs ≡ s.moment.gate.labs
   labs_asked p s t = asked_keeps row turn (λ g. g.labs ≡ s.moment.gate.labs) (call_labs s.moment.gate.labs) p s t refl
 
-  pub labs_kept : (p : Lists) (s : Stage R T) (t : ℕ) → (at_tick row turn p t s).moment.gate.labs ≡ s.moment.gate.labs
+  pub labs_kept : (p : Lists) (s : Stage R T) (t : ℕ) → (tick_passed row turn p t s).moment.gate.labs ≡ s.moment.gate.labs
   labs_kept p s t = tick_keeps row turn (λ g. g.labs ≡ s.moment.gate.labs) (call_labs s.moment.gate.labs) p s t refl

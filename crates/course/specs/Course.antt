@@ -47,14 +47,14 @@ module _ {R T : Type 0} (row : Meaning R) (turn : Turns T) where
   abbrev pub begun : ℕ → Stage R T → Stage R T
   begun t s = record s { moment = (does row turn (ToBegin t) s.moment.gate s.moment.rows).left }
 
-  -- all that happens at tick t: first an end, then what the plan asks for, in its order, then a begin
-  abbrev pub at_tick : Lists → ℕ → Stage R T → Stage R T
-  at_tick p t s = begun t (fold ask (end_due t s) (asked_at p t))
+  -- all that happens at tick t: first an end, then what the plan asks for, withdrawals before filings, then a begin
+  abbrev pub tick_passed : Lists → ℕ → Stage R T → Stage R T
+  tick_passed p t s = begun t (fold ask (end_due t s) (asked_at p t))
 
   -- the n ticks from t on
   unfoldable pub ticks : Lists → ℕ → ℕ → Stage R T → Stage R T
   ticks p t zero s = s
-  ticks p t (suc n) s = ticks p (suc t) n (at_tick p t s)
+  ticks p t (suc n) s = ticks p (suc t) n (tick_passed p t s)
 
   -- what is printed once all ticks from t up to the last have passed
   abbrev pub printed_from : Lists → ℕ → Stage R T → List ℕ

@@ -1,6 +1,7 @@
 -- What play prints for a plan, and for the bytes of one: with server rows, circular turns, and tickets in the order of arrival.
 use Rattle.std.specs.Prelude.{ℕ, suc, nat_lt, List, [], ◌∷◌, length, Result, Ok, Err, if◌then◌else◌}
 use Rattle.measures.specs.Limits.{greatest_lab_number, most_plan_bytes}
+use Rattle.measures.specs.Results.{◌>>=◌}
 use Rattle.measures.specs.declared.refusal.Refusal.{Refusal}
 use Rattle.server.specs.declared.ServerRow.{ServerRow}
 use Rattle.server.specs.Row.{server, made}
@@ -20,12 +21,6 @@ use Rattle.course.specs.Course.{Stage, printed_from}
 pub record Refused : Type 0 where
   pub line : ℕ
   pub refusal : Refusal
-
--- what comes after what was not refused
-infixl 10 ◌>>=◌
-abbrev pub ◌>>=◌ : {A B : Type 0} → Result A Refused → (A → Result B Refused) → Result B Refused
-(Ok a) >>= f = f a
-(Err r) >>= f = Err r
 
 -- a refusal of what stands on this line
 abbrev pub on_line : {A : Type 0} → ℕ → Result A Refusal → Result A Refused

@@ -6,7 +6,6 @@ ghost use Rattle.forecast_lines.specs.declared.Fault.TheVariants.{Refused, OutOf
 
 use measures::refusal::Refusal;
 use std::alloc::{AllocError, AllocFailed};
-use thiserror::Error;
 
 pub mod text;
 
@@ -44,21 +43,17 @@ pub enum Line {
 }
 
 // Why there is no forecast.
-#[derive(Clone, Copy, PartialEq, Eq, Debug, Error)]
+#[derive(Clone, Copy, PartialEq, Eq, Debug)]
 pub enum Fault {
     // the word at this place, counted from 1
-    #[error("word {0} is not a number")]
     NotANumber(usize),
     // the numbers are not the terms of a row and one length or more
-    #[error("usage: forecast RATE CEILING THRESHOLD LENGTH..., or: forecast spaced RATE LENGTH...")]
     TooFewNumbers,
-    #[error(transparent)]
     Refused(Refusal),
-    #[error("out of memory")]
     OutOfMemory,
 }
 
-// By hand and not by `#[from]`, since contracts name the fault that `?` makes.
+// Contracts name the fault that `?` makes of an error.
 impl From<Refusal> for Fault {
     ghost from_gives = { λ r f. f ≡ Refused r };
 

@@ -5,7 +5,8 @@ use Rattle.budget.proofs.Holding.{held_rest}
 use Rattle.outlook.specs.Outlooks.{listable}
 use Rattle.outlook.specs.declared.entry.Entry.{Entry}
 use Rattle.outlook.proofs.Held.{held_outlook}
-use Rattle.forecasting.specs.Lines.{◌>>=◌, or_fault, filed, held, at_start, after_step, step_lines, steps, told, listed, on_row}
+use Rattle.measures.specs.Results.{◌>>=◌}
+use Rattle.forecasting.specs.Lines.{or_fault, filed, held, at_start, after_step, step_lines, steps, told, listed, on_row}
 use Rattle.forecast_lines.specs.declared.Fault.{Fault}
 use Rattle.forecast_lines.specs.declared.Line.TheVariants.{Begin, End}
 

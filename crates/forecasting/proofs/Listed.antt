@@ -4,19 +4,20 @@ use Rattle.std.proofs.lemmas.List.{length-map}
 use Rattle.std.proofs.lemmas.List.FromFn.{length-enumerate_from}
 use Rattle.std.specs.List.{enumerate_from}
 use Rattle.budget.specs.Meaning.{Meaning}
-use Rattle.budget.specs.Imports.{written_over}
+use Rattle.waiting.specs.Queues.{headed_by}
 use Rattle.waiting.specs.declared.ticket.Ticket.{Ticket}
 use Rattle.outlook.specs.Outlooks.{outlook, listable}
 use Rattle.outlook.specs.declared.entry.Entry.{Entry}
 use Rattle.outlook.proofs.Listed.{first_places}
-use Rattle.forecasting.specs.Lines.{◌>>=◌, or_fault, filed, listed}
+use Rattle.measures.specs.Results.{◌>>=◌}
+use Rattle.forecasting.specs.Lines.{or_fault, filed, listed}
 
 length-filed : (cs : List ℕ) → length (filed cs) ≡ length cs
 length-filed cs = length-map (enumerate_from 0 cs) _ ∙ length-enumerate_from 0 cs
 
 -- once the entries are written over the list, its first n places are what was to be listed
 pub listed_first : {R : Type 0} (m : Meaning R) (x : R) (cs : List ℕ) (n : ℕ) (new rest old : List Entry) (ts : List Ticket)
-    → new ≡ written_over (outlook m x 0 ts) old → Ok tt ≡ listable 0 ts (length old)
+    → new ≡ headed_by (outlook m x 0 ts) old → Ok tt ≡ listable 0 ts (length old)
     → ts ≡ filed cs → length old ≡ length cs → n ≡ length cs
     → listed m x cs ≡ Ok (take n (new ++ rest))
 listed_first m x cs n new rest old ts written granted tickets places len =

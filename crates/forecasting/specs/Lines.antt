@@ -3,6 +3,7 @@ use Rattle.std.specs.Prelude.{◌≡◌, ℕ, ◌+◌, ◌-◌, ◌&&◌, List, 
 use Rattle.std.specs.List.{enumerate_from}
 use Rattle.std.specs.declared.alloc.Global.{Global}
 use Rattle.measures.specs.Limits.{last, is_tick}
+use Rattle.measures.specs.Results.{◌>>=◌}
 use Rattle.measures.specs.declared.refusal.Refusal.{Refusal}
 use Rattle.budget.specs.Meaning.{Meaning}
 use Rattle.budget.specs.Imports.{rest_long}
@@ -17,12 +18,6 @@ use Rattle.forecast_lines.specs.declared.Fault.{Fault}
 use Rattle.forecast_lines.specs.declared.Fault.TheVariants.{NotANumber, TooFewNumbers, Refused, OutOfMemory}
 use Rattle.forecasting.specs.declared.lines.Rule.{Rule}
 use Rattle.forecasting.specs.declared.lines.Rule.TheVariants.{Server, Spaced}
-
--- what comes after a grant
-infixl 20 ◌>>=◌
-abbrev pub ◌>>=◌ : {A B E : Type 0} → Result A E → (A → Result B E) → Result B E
-◌>>=◌ (Ok a) f = f a
-◌>>=◌ (Err e) f = Err e
 
 -- the ticket of lab 0 for an import of c ticks that is filed at tick 0 with no due date, where tickets wait in the order of arrival
 abbrev pub filed_ticket : ℕ → ℕ → Ticket
@@ -78,12 +73,17 @@ listed m x cs = or_fault (listable 0 (filed cs) (length cs) >>= λ _. Ok (outloo
 abbrev pub on_row : {R : Type 0} → Meaning R → Result R Refusal → List ℕ → Result (List Line) Fault
 on_row m row cs = or_fault row >>= λ x. listed m x cs >>= λ es. Ok (told m x es)
 
+-- how many numbers ask for a forecast at least: the terms of a row of this rule, and one length
+abbrev pub fewest : Rule → ℕ
+fewest Server = 4
+fewest Spaced = 2
+
 -- what the terms of a row of this rule and one length or more ask for: of a server row a rate, a ceiling and a threshold, of a spaced
 -- row a rate
 abbrev pub foretold : Rule → List ℕ → Result (List Line) Fault
 foretold Server ns =
-    if nat_lt (length ns) 4 then Err TooFewNumbers else on_row server (server_made (slice_index ns 0) (slice_index ns 1) (slice_index ns 2)) (drop 3 ns)
-foretold Spaced ns = if nat_lt (length ns) 2 then Err TooFewNumbers else on_row spaced (spaced_made (slice_index ns 0)) (drop 1 ns)
+    if nat_lt (length ns) (fewest Server) then Err TooFewNumbers else on_row server (server_made (slice_index ns 0) (slice_index ns 1) (slice_index ns 2)) (drop 3 ns)
+foretold Spaced ns = if nat_lt (length ns) (fewest Spaced) then Err TooFewNumbers else on_row spaced (spaced_made (slice_index ns 0)) (drop 1 ns)
 
 -- what a fault says of what was asked for; want of memory says nothing
 abbrev pub Excused : {A : Type 0} → Fault → Result A Fault → Type 0

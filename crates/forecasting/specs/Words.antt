@@ -4,7 +4,7 @@ use Rattle.std.specs.Option.{ok_or}
 use Rattle.std.specs.Str.{bytes_eq}
 use Rattle.std.specs.declared.alloc.Global.{Global}
 use Rattle.forecasting.specs.Lines as lines
-use Rattle.forecasting.specs.Lines.{◌>>=◌}
+use Rattle.measures.specs.Results.{◌>>=◌}
 use Rattle.numerals.specs.Numerals.{number_of}
 use Rattle.forecasting.specs.declared.lines.Rule.{Rule}
 use Rattle.forecasting.specs.declared.lines.Rule.TheVariants.{Server, Spaced}

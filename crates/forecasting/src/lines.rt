@@ -1,5 +1,6 @@
-ghost use Rattle.std.specs.Prelude.{◌≡◌, ◌++◌, IfOk, Ok, OnOk};
-ghost use Rattle.forecasting.specs.Lines.{step_lines, after_step, steps, imports as import_lines, told, filed, listed, Answers, on_row, foretold};
+ghost use Rattle.std.specs.Prelude.{◌≡◌, ◌++◌, true, nat_lt, length, IfOk, Ok, Err, OnOk};
+ghost use Rattle.forecast_lines.specs.declared.Fault.TheVariants.{TooFewNumbers};
+ghost use Rattle.forecasting.specs.Lines.{step_lines, after_step, steps, imports as import_lines, told, filed, listed, Answers, on_row, fewest, foretold};
 
 use budget::imports::{RowAt, rest_long};
 use budget::row::{BudgetRow, LevelRow};
@@ -133,7 +134,9 @@ pub fn forecast_row<R: LevelRow>(heap: Global, row: &R, lengths: &[u64]) -> Resu
 
 // The forecast for the terms of a row of this rule, and the lengths of imports in order. It goes through a mixed row, as a host's table does.
 pub fn forecast(heap: Global, rule: Rule, numbers: &[u64]) -> Result<Vec<Line>, Fault>
-    ensures { Answers result (foretold rule numbers.now) }
+    ensures said { Answers result (foretold rule numbers.now) }
+    // Too few numbers are told whatever memory there is.
+    ensures few { nat_lt (length numbers.now) (fewest rule) ≡ true → result ≡ Err TooFewNumbers }
 {
     match (rule, numbers) {
         (Rule::Server, [rate, ceiling, threshold, lengths @ ..]) if !lengths.is_empty() => {

@@ -117,7 +117,7 @@ impl<T: TurnRule> Gate<T> {
             return Err(Refusal::LockFree);
         };
         self.rest_to(rows, tick);
-        // neither difference is cut at 0: an import is filed and begins before it ends, as the contract of `open` says
+        // neither difference is cut at 0: an import ends no sooner than it was filed and began, as the contract of `open` says
         let held = tick.saturating_sub(import.began);
         tell(rows, import.lab, held);
         self.running = None;

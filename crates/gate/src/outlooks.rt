@@ -1,8 +1,7 @@
 ghost use Rattle.std.specs.Prelude.{◌≡◌, ◌<◌, length, None, OnOk, OnErr};
 ghost use Rattle.measures.specs.Limits.{most_labs};
 ghost use Rattle.measures.specs.Refusals.{granted_unless};
-ghost use Rattle.budget.specs.Imports.{written_over};
-ghost use Rattle.waiting.specs.Queues.{queue_of};
+ghost use Rattle.waiting.specs.Queues.{queue_of, headed_by};
 ghost use Rattle.outlook.specs.Outlooks.{outlook, AreSoonest, outlooks, place_checks, lab_checks, TellsSoonest};
 ghost use Rattle.outlook.specs.LeftAlone.{Foretells};
 
@@ -59,7 +58,7 @@ impl<T: TurnRule> Gate<T> {
         list: &mut [Entry],
     ) -> Result<u64, Refusal>
         ensures answer { result ≡ granted_unless (place_checks (queue_of self.now.waiting lab) (length list.old)) (length (queue_of self.now.waiting lab)) }
-        ensures listed { OnOk result (list.new ≡ written_over (outlook R.meaning row.now self.now.clock (queue_of self.now.waiting lab)) list.old) }
+        ensures listed { OnOk result (list.new ≡ headed_by (outlook R.meaning row.now self.now.clock (queue_of self.now.waiting lab)) list.old) }
         ensures unchanged { OnErr result (list.new ≡ list.old) }
         ensures soonest { OnOk result (AreSoonest R.meaning row.now self.now.clock (queue_of self.now.waiting lab) list.new) }
     {

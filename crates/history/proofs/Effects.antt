@@ -55,7 +55,8 @@ granted [] a b e = (tt, cc)
 granted ((true, refusal) ∷ checks) a b e = absurd (let z : ◌≡◌ {A = ℕ} 0 1 = cc in omega arith)
 granted ((false, refusal) ∷ checks) a b e = let rest = granted checks a b e in ((refl, rest.0), rest.1)
 
-none_there : {A : Type 0} (o : Option A) → is_some o ≡ false → o ≡ None
+-- what the test of an option says
+pub none_there : {A : Type 0} (o : Option A) → is_some o ≡ false → o ≡ None
 none_there None free = refl
 none_there (Some a) free = absurd (let z : true ≡ false = free in grind (arith, z))
 

@@ -1,10 +1,11 @@
 -- What is known of one lab at a tick, from what its row says and from its runs: how long it can have held the lock.
-use Rattle.std.proofs.Common.{◌≡◌, ℕ, ◌+◌, ◌-◌, ◌*◌, ◌≤◌, true, List, [], ◌∷◌, All, refl, sym, ap, ◌∙◌, arith, ⊎_elim, mul-add, add-mul, mul-le-mul_left}
+use Rattle.std.proofs.Common.{◌≡◌, ℕ, ◌+◌, ◌-◌, ◌*◌, ◌≤◌, true, List, [], ◌∷◌, All, refl, ap, ◌∙◌, arith, ⊎_elim, mul-add, mul-le-mul_left}
 use Rattle.std.specs.Prelude.{pos, ◌+ℤ◌, ◌≤ℤ◌}
 use Rattle.std.proofs.lemmas.Bool.{cases_lt}
 use Rattle.std.proofs.lemmas.Int.{ints}
 use Rattle.std.proofs.lemmas.List.Elements.{All-nil, All-cons}
 use Rattle.measures.specs.Limits.{last}
+use Rattle.measures.proofs.Rates.{whole}
 use Rattle.budget.specs.Meaning.{Meaning, Sentences, SameTerms, full_wait, first_wait}
 use Rattle.history.specs.Logs.{Run, is_in_some, ticks_with, longest}
 use Rattle.history.specs.Guaranteed.{rest_over}
@@ -29,12 +30,6 @@ pub record Ledger {R : Type 0} (m : Meaning R) (x0 : R) (rs : List Run) (t : ℕ
 -- the run of a lab from tick p up to tick t
 abbrev pub run_up_to : ℕ → ℕ → ℕ → Run
 run_up_to lab p t = record { lab = lab; from = p; to = t }
-
--- a rate and what it leaves make 1000
-whole : (rate n : ℕ) → rate ≤ 1000 → (1000 - rate) * n + rate * n ≡ 1000 * n
-whole rate n h =
-    let all : (1000 - rate) + rate ≡ 1000 = omega arith in
-    sym (add-mul (1000 - rate) rate n) ∙ ap (λ k. k * n) all
 
 longer_new : (r : Run) (rs : List Run) → r.to - r.from ≤ longest (r ∷ rs)
 unfolding longest

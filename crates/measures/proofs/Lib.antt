@@ -1,2 +1,2 @@
-pub mod Checks
 pub mod Quotients
+pub mod Rates

@@ -1,3 +1,4 @@
 pub mod Division
 pub mod Limits
 pub mod Refusals
+pub mod Results

@@ -1,5 +1,5 @@
-ghost use Rattle.std.specs.Prelude.{◌≡◌};
-ghost use Rattle.measures.specs.Refusals.{number_of};
+ghost use Rattle.std.specs.Prelude.{◌≡◌, Some};
+ghost use Rattle.measures.specs.Refusals.{number_of, name_of, refusal_text};
 
 use std::error::Error;
 use std::fmt;
@@ -38,11 +38,37 @@ impl Refusal {
     {
         self as u64
     }
+
+    // Its name, as a person reads it.
+    fn name(self) -> &'static str
+        ensures { result.now ≡ name_of self }
+    {
+        match self {
+            Refusal::RateOutOfRange => "RateOutOfRange",
+            Refusal::CeilingOutOfRange => "CeilingOutOfRange",
+            Refusal::ThresholdAboveCeiling => "ThresholdAboveCeiling",
+            Refusal::LabCountOutOfRange => "LabCountOutOfRange",
+            Refusal::RateSumTooLarge => "RateSumTooLarge",
+            Refusal::TableMismatch => "TableMismatch",
+            Refusal::TickOutOfRange => "TickOutOfRange",
+            Refusal::NoSuchLab => "NoSuchLab",
+            Refusal::LengthOutOfRange => "LengthOutOfRange",
+            Refusal::DueOutOfRange => "DueOutOfRange",
+            Refusal::QueueFull => "QueueFull",
+            Refusal::TicketsExhausted => "TicketsExhausted",
+            Refusal::NoSuchTicket => "NoSuchTicket",
+            Refusal::LockHeld => "LockHeld",
+            Refusal::LockFree => "LockFree",
+            Refusal::ListTooShort => "ListTooShort",
+        }
+    }
 }
 
 impl fmt::Display for Refusal {
+    ghost output = { λ refusal. Some (refusal_text refusal) };
+
     fn fmt<W: fmt::Write>(&self, f: &mut fmt::Formatter<W>) -> fmt::Result {
-        write!(f, "refusal {}: {self:?}", self.number())
+        write!(f, "refusal {}: {}", self.number(), self.name())
     }
 }
 

@@ -4,9 +4,9 @@ use Rattle.std.proofs.lemmas.Bool.{cases_lt, le-leb, lt-leb}
 use Rattle.std.proofs.lemmas.Option.{slice_get-get_or}
 use Rattle.measures.specs.Limits.{last, most_labs}
 use Rattle.budget.specs.Meaning.{Meaning, Sentences}
-use Rattle.budget.specs.Imports.{next_slot, after_run, written_over}
+use Rattle.budget.specs.Imports.{next_slot, after_run}
 use Rattle.turns.specs.Turns.{Turns}
-use Rattle.waiting.specs.Queues.{queue_of}
+use Rattle.waiting.specs.Queues.{queue_of, headed_by}
 use Rattle.waiting.specs.declared.ticket.Ticket.{Ticket}
 use Rattle.history.specs.Gates.{GateState, Moment}
 use Rattle.history.specs.Histories.{ToBegin, ToEnd, Event, does}
@@ -150,7 +150,7 @@ module _ {R T : Type 0} {row : Meaning R} (sentences : Sentences row) (turn : Tu
 pub foretells : {R T : Type 0} {row : Meaning R} → Sentences row → (turn : Turns T) (g : GateState T) (rows : List R) (lab : ℕ) (x : R)
     (list old : List Entry)
     → g.labs ≡ length rows → lab < most_labs → g.running ≡ None → slice_get rows lab ≡ Some x
-    → list ≡ written_over (outlook row x g.clock (queue_of g.waiting lab)) old
+    → list ≡ headed_by (outlook row x g.clock (queue_of g.waiting lab)) old
     → Foretells row turn (record { gate = g; rows = rows }) lab list
 unfolding Foretells
 foretells {R} {T} {row} sentences turn g rows lab x list old labs low free there is es =
@@ -168,7 +168,7 @@ foretells {R} {T} {row} sentences turn g rows lab x list old labs low free there
 pub foretells_granted : {R T A E : Type 0} {row : Meaning R} → Sentences row → (turn : Turns T) (g : GateState T) (rows : List R) (lab : ℕ) (x : R)
     (list old : List Entry) (r : Result A E)
     → g.labs ≡ length rows → lab < length rows → lab < most_labs → g.running ≡ None → x ≡ slice_index_or rows lab x
-    → OnOk r (list ≡ written_over (outlook row x g.clock (queue_of g.waiting lab)) old)
+    → OnOk r (list ≡ headed_by (outlook row x g.clock (queue_of g.waiting lab)) old)
     → OnOk r (Foretells row turn (record { gate = g; rows = rows }) lab list)
 foretells_granted sentences turn g rows lab x list old (Ok a) labs within low free read is =
     foretells sentences turn g rows lab x list old labs low free (slice_get-get_or rows lab x within ∙ ap Some (sym read)) is

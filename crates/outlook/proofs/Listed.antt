@@ -5,7 +5,8 @@ use Rattle.std.proofs.lemmas.Bool.{and_parts, leb-true}
 use Rattle.std.proofs.lemmas.List.Sums.{AllPass-from_list_all}
 use Rattle.measures.specs.Limits.{last, most_waiting, greatest_length, is_length}
 use Rattle.budget.specs.Meaning.{Meaning, Sentences}
-use Rattle.budget.specs.Imports.{next_slot, after_run, schedule, written_over, AllSoonest}
+use Rattle.budget.specs.Imports.{next_slot, after_run, schedule, AllSoonest}
+use Rattle.waiting.specs.Queues.{headed_by}
 use Rattle.budget.proofs.Resting.{wake_limit, all_soonest}
 use Rattle.waiting.specs.declared.ticket.Ticket.{Ticket}
 use Rattle.outlook.specs.declared.entry.Entry.{Entry}
@@ -27,7 +28,7 @@ module _ {R : Type 0} (m : Meaning R) where
   length-outlook x t (k ∷ ks) = ap suc (length-outlook (after_run m x k.length) (next_slot m x t k.length).end ks)
 
   -- the first places of a list that the entries are written over
-  pub first_places : (x : R) (t : ℕ) (ts : List Ticket) (now old rest : List Entry) → now ≡ written_over (outlook m x t ts) old
+  pub first_places : (x : R) (t : ℕ) (ts : List Ticket) (now old rest : List Entry) → now ≡ headed_by (outlook m x t ts) old
       → take (length ts) (now ++ rest) ≡ outlook m x t ts
   first_places x t ts now old rest written =
       let list = outlook m x t ts in
@@ -79,7 +80,7 @@ module _ {R : Type 0} {m : Meaning R} (s : Sentences m) where
 
   -- and in the end all are, and written over the first places
   pub all_listed : (x y : R) (t u i : ℕ) (ts : List Ticket) (old list : List Entry)
-      → length ts ≤ i → i ≤ length ts → Listed m x t ts old list y u i → list ≡ written_over (outlook m x t ts) old
+      → length ts ≤ i → i ≤ length ts → Listed m x t ts old list y u i → list ≡ headed_by (outlook m x t ts) old
   unfolding Listed
   all_listed x y t u i ts old list past within so_far =
       let none = at_drop_all (outlook m y u) ts i past in
@@ -93,7 +94,7 @@ module _ {R : Type 0} {m : Meaning R} (s : Sentences m) where
 
   -- what the entries that are written tell is the soonest
   pub listed_soonest : (x : R) (t : ℕ) (ts : List Ticket) (new old : List Entry)
-      → new ≡ written_over (outlook m x t ts) old → AreSoonest m x t ts new
+      → new ≡ headed_by (outlook m x t ts) old → AreSoonest m x t ts new
   listed_soonest x t ts new old written =
       let list = outlook m x t ts in
       let first : take (length ts) new ≡ list =

@@ -7,8 +7,8 @@ use Rattle.measures.specs.Refusals.{granted_unless}
 use Rattle.measures.specs.declared.refusal.Refusal.{Refusal}
 use Rattle.measures.specs.declared.refusal.Refusal.TheVariants.{TableMismatch, TickOutOfRange, NoSuchLab, LengthOutOfRange, QueueFull, LockHeld, ListTooShort}
 use Rattle.budget.specs.Meaning.{Meaning}
-use Rattle.budget.specs.Imports.{Slot, next_slot, after_run, schedule, written_over, AllSoonest}
-use Rattle.waiting.specs.Queues.{queue_of}
+use Rattle.budget.specs.Imports.{Slot, next_slot, after_run, schedule, AllSoonest}
+use Rattle.waiting.specs.Queues.{queue_of, headed_by}
 use Rattle.waiting.specs.declared.ticket.Ticket.{Ticket}
 use Rattle.history.specs.Gates.{GateState}
 use Rattle.history.specs.Calls.{is_other_table}
@@ -78,7 +78,7 @@ pub record Told : Type 0 where
 
 -- with this answer: the entries are written over the first places of the list; a denied call leaves the list that it was given
 abbrev pub told : Result ℕ Refusal → List Entry → List Entry → Told
-told (Ok n) new list = record { answer = Ok n; list = written_over new list }
+told (Ok n) new list = record { answer = Ok n; list = headed_by new list }
 told (Err refusal) new list = record { answer = Err refusal; list = list }
 
 -- how an outlook of a lab is denied, whatever the list

@@ -1,6 +1,6 @@
 ghost use Rattle.std.specs.Prelude.{◌≡◌, ◌+◌, ◌^◌, ◌<◌, ◌≤◌, true, length, OnOk, OnErr};
 ghost use Rattle.measures.specs.Limits.{last, most_waiting};
-ghost use Rattle.budget.specs.Imports.{written_over};
+ghost use Rattle.waiting.specs.Queues.{headed_by};
 ghost use Rattle.outlook.specs.Outlooks.{are_lawful, AreSoonest, Ran, listable, outlook};
 
 use crate::entry::Entry;
@@ -21,7 +21,7 @@ pub fn list_tickets<R: BudgetRow>(
     list: &mut [Entry],
 ) -> Result<(), Refusal>
     ensures answer { result ≡ listable tick tickets.now (length list.old) }
-    ensures listed { OnOk result (list.new ≡ written_over (outlook R.meaning row.now tick tickets.now) list.old) }
+    ensures listed { OnOk result (list.new ≡ headed_by (outlook R.meaning row.now tick tickets.now) list.old) }
     ensures unchanged { OnErr result (list.new ≡ list.old) }
     ensures soonest { OnOk result (AreSoonest R.meaning row.now tick tickets.now list.new) }
 {
@@ -61,7 +61,7 @@ fn fill_list<R: BudgetRow>(row: &R, tick: u64, tickets: &[Ticket], list: &mut [E
     requires lawful { are_lawful tickets.now ≡ true }
     requires few { length tickets.now ≤ most_waiting }
     requires room { length tickets.now ≤ length list.old }
-    ensures { list.new ≡ written_over (outlook R.meaning row.now tick tickets.now) list.old }
+    ensures { list.new ≡ headed_by (outlook R.meaning row.now tick tickets.now) list.old }
 {
     let mut next = RowAt { row: *row, tick };
     // by index, since a proof knows nothing of a slice that was written through `iter_mut().zip(..)`

@@ -5,7 +5,8 @@ use Rattle.std.specs.List.{onto_first}
 use Rattle.plan.specs.declared.faults.Break.{Break}
 use Rattle.plan.specs.declared.fields.Span.{Span}
 use Rattle.plan.specs.Readers.{fields_left}
-use Rattle.plan.specs.Reading.{◌>>=◌, next_number, numbers, fields, Left, any_number, next_line, lines}
+use Rattle.measures.specs.Results.{◌>>=◌}
+use Rattle.plan.specs.Reading.{next_number, numbers, fields, Left, any_number, next_line, lines}
 use Rattle.std.specs.Borrow.{Bor}
 
 -- these first, and then what is read

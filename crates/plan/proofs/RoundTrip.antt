@@ -15,7 +15,8 @@ use Rattle.plan.specs.declared.plan.Filing.{Filing}
 use Rattle.plan.specs.declared.plan.Withdrawal.{Withdrawal}
 use Rattle.plan.specs.declared.plan.Plan.{Plan}
 use Rattle.plan.specs.Plans.{Lists, lists, terms_of, filing_of, withdrawal_of}
-use Rattle.plan.specs.Reading.{◌>>=◌, lab_counts, filing_counts, withdrawal_counts, Left, any_number, start, next_line, lines, section, no_more, plan_of, or_broken, read_plan}
+use Rattle.measures.specs.Results.{◌>>=◌}
+use Rattle.plan.specs.Reading.{lab_counts, filing_counts, withdrawal_counts, Left, any_number, start, next_line, lines, section, no_more, plan_of, or_broken, read_plan}
 use Rattle.plan.specs.Readers.{Answers}
 use Rattle.plan.specs.Writing.{written_line, terms_numbers, filing_numbers, withdrawal_numbers, counted, Writes}
 use Rattle.plan.proofs.Spelling.{In, Small, Took, all_small, bind_ok, ok_is, from_guard, read_line, line_read}

@@ -19,7 +19,8 @@ use Rattle.numerals.proofs.Written.{digits_written, number_written, written_numb
 use Rattle.measures.specs.Limits.{last}
 use Rattle.plan.specs.declared.faults.Break.{Break}
 use Rattle.plan.specs.declared.fields.Span.{Span}
-use Rattle.plan.specs.Reading.{◌>>=◌, is_feed, is_space, is_within, has_leading_zero, number_in, next_number, numbers, fields, breaks, Left, next_line}
+use Rattle.measures.specs.Results.{◌>>=◌}
+use Rattle.plan.specs.Reading.{is_feed, is_space, is_within, has_leading_zero, number_in, next_number, numbers, fields, breaks, Left, next_line}
 use Rattle.plan.specs.Writing.{written_line}
 use Rattle.plan.proofs.Cuts.{any_first}
 

@@ -1,3 +1,4 @@
+pub mod Faults
 pub mod Plans
 pub mod Readers
 pub mod Reading

@@ -4,18 +4,13 @@ use Rattle.std.specs.List.{slice_split, before_first, after_first, list_any}
 use Rattle.std.specs.Option.{ok_or, option_and_then}
 use Rattle.std.specs.Bool.{then_some}
 use Rattle.measures.specs.Limits.{last, most_labs, most_filings, most_withdrawals, most_plan_bytes}
+use Rattle.measures.specs.Results.{◌>>=◌}
 use Rattle.numerals.specs.Numerals.{number_of}
 use Rattle.plan.specs.declared.faults.Break.{Break}
 use Rattle.plan.specs.declared.faults.ReadError.{ReadError}
 use Rattle.plan.specs.declared.faults.ReadError.TheVariants as errors
 use Rattle.plan.specs.declared.fields.Span.{Span}
 use Rattle.plan.specs.Plans.{Lists, terms_of, filing_of, withdrawal_of}
-
--- what comes after what was read
-infixl 10 ◌>>=◌
-abbrev pub ◌>>=◌ : {A B : Type 0} → Result A Break → (A → Result B Break) → Result B Break
-(Ok a) >>= f = f a
-(Err b) >>= f = Err b
 
 -- a line feed, which ends a line
 abbrev pub is_feed : ℕ → Bool

@@ -1,8 +1,10 @@
-ghost use Rattle.std.specs.Prelude.{IfOk, Ok};
+ghost use Rattle.std.specs.Prelude.{◌≡◌, true, nat_lt, length, IfOk, Ok, Err};
+ghost use Rattle.measures.specs.Limits.{most_plan_bytes};
 ghost use Rattle.plan.specs.Readers.{Answers};
 ghost use Rattle.plan.specs.Plans.{Lists, lists};
 ghost use Rattle.plan.specs.Reading.{plan_of, read_plan, or_broken};
 ghost use Rattle.plan.specs.Writing.{Writes};
+ghost use Rattle.plan.specs.declared.faults.ReadError.TheVariants.{TooLong};
 
 use crate::faults::ReadError;
 use crate::fields::Span;
@@ -30,6 +32,8 @@ const WITHDRAWAL_COUNTS: Span = Span {
 #[tactic(auto, using(crate::proofs::RoundTrip::is_written, crate::proofs::RoundTrip::is_read))]
 pub fn read_plan(heap: Global, bytes: &[u8]) -> Result<Plan, ReadError>
     ensures said { Answers lists result (read_plan bytes.now) }
+    // Too many bytes are told whatever memory there is.
+    ensures too_long { nat_lt most_plan_bytes (length bytes.now) ≡ true → result ≡ Err TooLong }
     // The bytes that are read as a plan write it,
     ensures written { IfOk result (λ p. Writes bytes.now (lists p)) }
     // and a plan that the bytes write is read, unless memory runs out.
@@ -39,7 +43,8 @@ pub fn read_plan(heap: Global, bytes: &[u8]) -> Result<Plan, ReadError>
 }
 
 fn read(heap: Global, bytes: &[u8]) -> Result<Plan, ReadError>
-    ensures { Answers lists result (read_plan bytes.now) }
+    ensures said { Answers lists result (read_plan bytes.now) }
+    ensures too_long { nat_lt most_plan_bytes (length bytes.now) ≡ true → result ≡ Err TooLong }
 {
     if bytes.len() as u64 > MOST_PLAN_BYTES {
         return Err(ReadError::TooLong);

@@ -3,7 +3,7 @@
 
 use measures::limits::MOST_PLAN_BYTES;
 use playing::play::play;
-use std::io::{Read, Write};
+use std::io::Read;
 
 fn main(rt: HostRuntime) -> anyhow::Result<()> {
     let heap = rt.alloc();
@@ -13,6 +13,6 @@ fn main(rt: HostRuntime) -> anyhow::Result<()> {
         .take(MOST_PLAN_BYTES + 1)
         .read_to_end(&mut bytes)?;
     let printed = play(heap, bytes.as_slice())?;
-    rt.stdout().write_all(printed.as_bytes())?;
+    print!(rt; "{}", printed.as_str())?;
     Ok(())
 }

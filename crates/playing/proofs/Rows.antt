@@ -5,7 +5,8 @@ use Rattle.measures.specs.declared.refusal.Refusal.{Refusal}
 use Rattle.server.specs.declared.ServerRow.{ServerRow}
 use Rattle.plan.specs.declared.plan.Terms.{Terms}
 use Rattle.course.specs.Asking.{labs_line}
-use Rattle.course.specs.Playing.{Refused, ◌>>=◌, row_of, rows_of}
+use Rattle.measures.specs.Results.{◌>>=◌}
+use Rattle.course.specs.Playing.{Refused, row_of, rows_of}
 
 -- these first, and then the rows that are made
 abbrev with_rows : List ServerRow → Result (List ServerRow) Refused → Result (List ServerRow) Refused

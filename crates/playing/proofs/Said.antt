@@ -30,7 +30,8 @@ use Rattle.plan.specs.Writing.{terms_numbers, filing_numbers, withdrawal_numbers
 use Rattle.course.specs.Asking.{labs_line}
 use Rattle.course.specs.Printing.{no_line, bad_line, big_line}
 use Rattle.course.specs.Course.{Stage, printed_from}
-use Rattle.course.specs.Playing.{Refused, ◌>>=◌, on_line, if_granted, rows_of, opening, beginning, played_from, played, read_prints, prints}
+use Rattle.measures.specs.Results.{◌>>=◌}
+use Rattle.course.specs.Playing.{Refused, on_line, if_granted, rows_of, opening, beginning, played_from, played, read_prints, prints}
 use Rattle.playing.specs.Stages.{IsLawful, IsFresh, Prints}
 
 -- where memory ran out, nothing is said

@@ -1,26 +1,23 @@
 -- The spaced row keeps the sentences.
 use Rattle.std.specs.Prelude.{◌≡◌, ℕ, ◌+◌, ◌-◌, ◌*◌, ◌<◌, ◌≤◌, true, pos, ◌+ℤ◌, ◌≤ℤ◌, refl}
-use Rattle.std.proofs.Common.{sym, ap, ◌∙◌, add-mul, mul-add, mul_comm, mul-le-mul_left, mul-zero, zero-add, arith}
+use Rattle.std.proofs.Common.{ap, ◌∙◌, mul-add, mul_comm, mul-le-mul_left, mul-zero, zero-add, arith}
 use Rattle.std.proofs.lemmas.Int.{ints}
 use Rattle.std.proofs.lemmas.Bool.{eqb-true}
 use Rattle.measures.specs.Limits.{last, least_rate, greatest_rate}
 use Rattle.measures.specs.Division.{up_div}
+use Rattle.measures.proofs.Rates.{whole}
 use Rattle.measures.proofs.Quotients.{up_div_reaches, up_div_near, up_div_below, up_div_mono}
 use Rattle.budget.specs.Meaning.{Sentences, SameTerms, full_wait}
 use Rattle.spaced.specs.Row.{pause, ShortestPause, rate_of, left_of, level_of, able_of, with_left, rested, ended, spaced}
 use Rattle.spaced.specs.declared.SpacedRow.{SpacedRow}
 
 -- a longer run has a longer pause
-pause_mono : (rate c c' : ℕ) → 0 < rate → c ≤ c' → pause rate c ≤ pause rate c'
+pub pause_mono : (rate c c' : ℕ) → 0 < rate → c ≤ c' → pause rate c ≤ pause rate c'
 pause_mono rate c c' h le = up_div_mono ((1000 - rate) * c) ((1000 - rate) * c') rate h (mul-le-mul_left (1000 - rate) le)
-
--- the rest of each tick held and the rate of it are the whole of it
-whole_run : (rate c : ℕ) → rate ≤ 1000 → (1000 - rate) * c + rate * c ≡ 1000 * c
-whole_run rate c high = sym (add-mul (1000 - rate) rate c) ∙ ap (λ n. n * c) (omega arith)
 
 pub pause_shortest : (rate c : ℕ) → 0 < rate → rate ≤ 1000 → ShortestPause rate c (pause rate c)
 pause_shortest rate c low high =
-    let whole = whole_run rate c high in
+    let all = whole rate c high in
     record {
       enough = omega (arith, up_div_reaches ((1000 - rate) * c) rate low, mul_comm rate (pause rate c), mul-add rate c (pause rate c));
       shortest = λ q reached. up_div_below ((1000 - rate) * c) rate q low (omega (arith, mul_comm rate q, mul-add rate c q));

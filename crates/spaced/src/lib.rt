@@ -28,9 +28,7 @@ impl SpacedRow {
         if !is_rate(rate) {
             return Err(Refusal::RateOutOfRange);
         }
-        let mut row = SpacedRow { rate, left: 0 };
-        row.restart();
-        Ok(row)
+        Ok(SpacedRow { rate, left: 0 })
     }
 
     // The ticks left of the pause, as they are read.
@@ -75,10 +73,11 @@ impl BudgetRow for SpacedRow {
         true
     }
 
+    #[tactic(auto, using(crate::proofs::Spacing::shortest_read))]
     fn ended(&mut self, ticks: u64) -> bool
         ensures answer { result ≡ (is_tick ticks && spaced.able self.old) }
         ensures left { self.new ≡ (if result then spaced.ended self.old ticks else self.old) }
-        ensures spacing { result ≡ true → ShortestPause (rate_of self.old) ticks self.new.left }
+        ensures spacing { result ≡ true → ShortestPause (rate_of self.old) ticks (spaced.wake self.new) }
     {
         match Ticks::new(ticks) {
             Some(ticks) if self.able() => {

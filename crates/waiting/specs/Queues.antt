@@ -57,6 +57,6 @@ waiting_ticket qs n = ticket_numbered n (flat_map (λ q. q) qs)
 abbrev pub without_ticket : List (List Ticket) → ℕ → List (List Ticket)
 without_ticket qs n = option_map_or (λ t. with_queue qs t.lab (without_numbered n (queue_of qs t.lab))) (waiting_ticket qs n) qs
 
--- a list with a queue at its head, and behind that what it held there
-abbrev pub headed_by : List Ticket → List Ticket → List Ticket
-headed_by q list = q ++ drop (length q) list
+-- a list with these at its head, written over what it held there
+abbrev pub headed_by : {A : Type 0} → List A → List A → List A
+headed_by new list = new ++ drop (length new) list

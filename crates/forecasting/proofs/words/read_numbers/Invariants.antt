@@ -1,5 +1,5 @@
 use Rattle.std.proofs.Common.{◌≡◌, ◌+◌, ◌++◌, drop, vec_items, Ok}
-use Rattle.forecasting.specs.Lines.{◌>>=◌}
+use Rattle.measures.specs.Results.{◌>>=◌}
 use Rattle.forecasting.specs.Words.{numbers_at}
 use Rattle.forecasting.proofs.words.read_numbers.Given as goal
 
