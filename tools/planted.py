@@ -7,7 +7,7 @@ planted/CRATE/NAME.edit is an edit of that crate's code, in the form of the must
 `caught: HOW OTHER` says what finds the bug: `proof`, that crate OTHER is refused; `test`, that a test of OTHER fails; `run`, that the program
 OTHER prints or ends otherwise than is stored.
 
-It prints a line for each planted bug, and a table by crate. Without arguments it takes about twenty minutes on four processors.
+It prints a line for each planted bug, and a table by crate. Each takes some ten to twenty seconds of a processor, and a run some half a minute.
 """
 import collections
 import glob
