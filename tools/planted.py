@@ -7,7 +7,7 @@ planted/CRATE/NAME.edit is an edit of that crate's code, in the form of the must
 `caught: HOW OTHER` says what finds the bug: `proof`, that crate OTHER is refused; `test`, that a test of OTHER fails; `run`, that the program
 OTHER prints or ends otherwise than is stored.
 
-It prints a line for each planted bug, and a table by crate. Each takes some ten to twenty seconds of a processor, and a run some half a minute.
+It prints a line for each planted bug, and a table by crate. Each takes some ten to twenty seconds of a processor, and a run a minute or more.
 """
 import collections
 import glob
@@ -85,19 +85,25 @@ def stored_run(other, copy):
     return as_stored and subprocess.run(["python3", "tools/runs.py", other], cwd=copy, stdout=subprocess.DEVNULL).returncode == 0
 
 
+def passes(how, other, copy):
+    """Whether the copy passes this check, run or test of crate OTHER."""
+    if how == "run":
+        return stored_run(other, copy)
+    command = ["rt", "check"] if how == "proof" else ["rt", "try", "--test"]
+    return subprocess.run(command, cwd=f"{copy}/crates/{other}", stdout=subprocess.DEVNULL, stderr=subprocess.DEVNULL).returncode == 0
+
+
 def caught(edit, room):
-    """Whether what is to catch this bug does."""
+    """Whether what is to catch this bug does: it passes without the bug, and not with it."""
     how, other = catcher(edit)
     copy = copied(room)
+    if not passes(how, other, copy):
+        return f"PASSES, since {how} of {other} fails without it too"
     if not applied(edit, copy):
         return "BAD EDIT"
-    if how == "run":
-        passes = stored_run(other, copy)
-    else:
-        command = ["rt", "check"] if how == "proof" else ["rt", "try", "--test"]
-        passes = subprocess.run(command, cwd=f"{copy}/crates/{other}", stdout=subprocess.DEVNULL, stderr=subprocess.DEVNULL).returncode == 0
+    found = not passes(how, other, copy)
     shutil.rmtree(copy)
-    return f"PASSES, also {how} of {other}" if passes else f"caught by {how} of {other}"
+    return f"caught by {how} of {other}" if found else f"PASSES, also {how} of {other}"
 
 
 def main(names):
