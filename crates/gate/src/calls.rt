@@ -16,7 +16,6 @@ use measures::refusal::Refusal;
 use turns::rule::TurnRule;
 use waiting::queue_order::QueueOrder;
 use waiting::ticket::Ticket;
-use waiting::waiting::Waiting;
 
 // The calls of a gate. One that is granted at a tick first lets every row rest up to it, but that of the lab that holds the lock; then that
 // tick is the clock. One that is denied changes nothing.
@@ -162,7 +161,7 @@ impl<T: TurnRule> Gate<T> {
         self.order = order;
         self.clock = 0;
         self.given = 0;
-        self.waiting = Waiting::new();
+        self.waiting.clear();
         self.running = None;
     }
 

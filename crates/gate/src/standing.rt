@@ -49,13 +49,16 @@ impl<T: TurnRule> Gate<T> {
         }
     }
 
-    // Whether a lab's row is able and a ticket of it waits.
-    #[tactic(auto, unfolding(history::specs::Standing::stands))]
+    // Whether a lab's row is able and a ticket of it waits. That a ticket waits is asked first, since it is sooner answered.
+    #[tactic(auto, using(crate::proofs::Asked::none_stands), unfolding(history::specs::Standing::stands))]
     fn stands<R: BudgetRow>(&self, rows: &[R], lab: u64) -> bool
         requires { lab < length rows.now }
         ensures { result ≡ stands R.meaning self.now rows.now lab }
     {
-        rows[lab as usize].able() && self.waiting.first(lab).is_some()
+        let Some(_) = self.waiting.first(lab) else {
+            return false;
+        };
+        rows[lab as usize].able()
     }
 
     pub(crate) fn whose_turn<R: BudgetRow>(&self, rows: &[R], next: Option<(u64, Ticket)>) -> Turn

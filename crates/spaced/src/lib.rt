@@ -12,6 +12,9 @@ use measures::rate::Rate;
 use measures::refusal::Refusal;
 use measures::ticks::Ticks;
 
+// So many ticks left are never cut, whatever the rate: the longest pause is longer.
+const NEVER_CUT: u64 = 1_000_000_000;
+
 // A host may store anything here: a number out of its range is read as the nearest lawful one.
 #[derive(Clone, Copy, PartialEq, Eq, Debug)]
 pub struct SpacedRow {
@@ -31,12 +34,15 @@ impl SpacedRow {
         Ok(SpacedRow { rate, left: 0 })
     }
 
-    // The ticks left of the pause, as they are read.
-    #[tactic(auto, using(crate::specs::Keeps::debt_high))]
+    // The ticks left of the pause, as they are read. The longest pause, which takes a division, is asked for only where it may be the shorter.
+    #[tactic(auto, using(crate::specs::Keeps::debt_high, crate::proofs::Spacing::never_cut))]
     fn left(&self) -> u64
         ensures value { result ≡ left_of self.now }
         ensures bound { rate_of self.now * result ≤ 1000 * last }
     {
+        if self.left <= NEVER_CUT {
+            return self.left;
+        }
         self.left.min(pause(self.lawful_rate(), Ticks::LAST))
     }
 

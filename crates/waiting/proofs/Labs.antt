@@ -1,11 +1,13 @@
 -- The queues of all labs, and what holds of every ticket of a queue.
-use Rattle.std.proofs.Common.{◌≡◌, ℕ, ◌+◌, ◌<◌, ◌≤◌, Bool, true, false, nat_eq, List, [], ◌∷◌, ◌++◌, length, take, drop, slice_index_or, slice_set, Option, Some, None, IsSome, if◌then◌else◌, All, refl, sym, ap, subst, ◌∙◌, arith, ⊎_elim, true≢false}
+use Rattle.std.proofs.Common.{◌≡◌, ℕ, ◌+◌, ◌<◌, ◌≤◌, Bool, true, false, nat_eq, List, [], ◌∷◌, ◌++◌, length, map, take, drop, slice_index_or, slice_set, Option, Some, None, IsSome, if◌then◌else◌, All, refl, sym, ap, subst, ◌∙◌, arith, ⊎_elim, true≢false}
 use Rattle.std.specs.List.{flat_map}
 use Rattle.std.specs.Option.{option_or, option_map_or}
 use Rattle.std.proofs.lemmas.Bool.{cases_Bool, cases_eq, cases_lt}
 use Rattle.std.proofs.lemmas.List.{get_or-set_same, get_or-set_other, get_or_default, get_or_past, append-nil, take_more, take-append-drop, get_or-replicate, ext_get_or, length-replicate, length-set}
 use Rattle.std.proofs.lemmas.List.Elements.{All-cons, All-drop, All-head, All-nil, All-tail}
+use Rattle.std.proofs.lemmas.List.Edits.{map_over_more}
 use Rattle.std.proofs.lemmas.List.Folds.{find-append}
+use Rattle.std.proofs.lemmas.Simd.{splat_is_map}
 use Rattle.std.proofs.lemmas.Grind.{flat_map-append}
 use Rattle.std.proofs.lemmas.List.Sorted.{All-permutation}
 use Rattle.earliest.specs.Sorted.{inserted}
@@ -103,6 +105,17 @@ own_none qs none = record {
 pub all_empty : (qs : List (List Ticket)) → length qs ≡ most_labs → ((k : ℕ) → k < most_labs → slice_index_or qs k [] ≡ []) → qs ≡ none_waiting
 unfolding none_waiting
 all_empty qs labs each = ext_get_or [] qs none_waiting (labs ∙ sym (length-replicate {A = List Ticket} most_labs [])) (λ k short. each k (omega (arith, short, labs)) ∙ sym (queue_of-none_waiting k))
+
+-- queues that were cleared
+pub all_cleared : (qs : List (List Ticket)) → length qs ≡ most_labs → map (λ q. []) qs ≡ none_waiting
+unfolding none_waiting
+all_cleared qs labs = sym (splat_is_map qs most_labs [] labs)
+
+-- and one more
+pub one_cleared : (before qs : List (List Ticket)) (k : ℕ) (x y : List Ticket) → k < length before → qs ≡ map (λ q. []) (take k before) ++ drop k before
+    → x ≡ slice_index_or qs k x → y ≡ []
+    → slice_set qs k y ≡ map (λ q. []) (take (k + 1) before) ++ drop (k + 1) before
+one_cleared before qs k x y within so_far read cleared = ap (slice_set qs k) cleared ∙ map_over_more (λ q. []) before qs k x within so_far read
 
 -- the labs up to k
 module _ (n : ℕ) (qs : List (List Ticket)) (k : ℕ) (within : k < length qs) where

@@ -37,6 +37,14 @@ impl Queue {
         }
     }
 
+    // No ticket waits any more; what lies in the places has no meaning then.
+    #[tactic(auto, unfolding(earliest::specs::HeapOrder::IsHeap, earliest::specs::Sorted::sorted))]
+    pub(crate) fn clear(&mut self)
+        ensures { self.new ≡ [] }
+    {
+        self.used = 0;
+    }
+
     #[tactic(auto, using(crate::proofs::Sorting::as_many))]
     pub(crate) fn len(&self) -> u64
         ensures value { result ≡ length self.now }

@@ -1,4 +1,4 @@
-ghost use Rattle.std.specs.Prelude.{◌≡◌, ◌<◌, ◌≤◌, List, length, slice_get, if◌then◌else◌, None, IsSome, IfNone, IfSome};
+ghost use Rattle.std.specs.Prelude.{◌≡◌, ◌<◌, ◌≤◌, List, [], length, map, slice_get, if◌then◌else◌, None, IsSome, IfNone, IfSome};
 ghost use Rattle.measures.specs.Limits.{most_waiting, is_lab_number};
 ghost use Rattle.waiting.specs.Queues.{queue_of, AreOwn, IsInOrder, none_waiting, may_wait, with_ticket, without_first, ticket_numbered, waiting_ticket, without_ticket, headed_by};
 ghost use Rattle.waiting.specs.declared.ticket.Ticket.{Ticket};
@@ -32,6 +32,14 @@ impl Waiting {
     {
         let queues = empty_queues();
         Waiting { queues }
+    }
+
+    // No ticket waits any more.
+    #[tactic(auto, using(crate::proofs::Labs::all_cleared, crate::proofs::Labs::own_none))]
+    pub fn clear(&mut self)
+        ensures { self.new ≡ none_waiting }
+    {
+        clear_all(&mut self.queues);
     }
 
     // How many tickets of a lab wait.
@@ -137,4 +145,13 @@ fn empty_queues() -> [Queue; LABS]
     ensures { result ≡ none_waiting }
 {
     array::from_fn(|_| Queue::new())
+}
+
+#[tactic(auto, using(crate::proofs::Labs::one_cleared))]
+fn clear_all(queues: &mut [Queue])
+    ensures { queues.new ≡ map (λ q. []) queues.old }
+{
+    for queue in queues.iter_mut() {
+        queue.clear();
+    }
 }

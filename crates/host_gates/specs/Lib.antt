@@ -1,0 +1,3 @@
+pub mod Owned
+pub mod Handles
+pub mod Answers
