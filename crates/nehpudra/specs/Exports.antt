@@ -25,12 +25,7 @@ use Rattle.host_gates.specs.declared.answers.Told.{Told}
 use Rattle.host_gates.specs.declared.answers.HostTurn.{HostTurn}
 use Rattle.host_gates.specs.declared.answers.HostEnded.{HostEnded}
 
--- what making a row answers
-abbrev pub row_made : Result HostRow Refusal → ℕ
-row_made (Ok row) = 0
-row_made (Err refusal) = number_of refusal
-
--- and what it leaves, where x was
+-- what making a row leaves, where x was
 abbrev pub row_left : Result HostRow Refusal → HostRow → HostRow
 row_left (Ok row) x = row
 row_left (Err refusal) x = x

@@ -1,6 +1,7 @@
 ghost use Rattle.std.specs.Prelude.{◌≡◌};
 ghost use Rattle.host_rows.specs.Row.{made_server, made_spaced};
-ghost use Rattle.nehpudra.specs.Exports.{row_made, row_left};
+ghost use Rattle.host_gates.specs.Answers.{status};
+ghost use Rattle.nehpudra.specs.Exports.{row_left};
 
 use host_gates::answers::status;
 use host_rows::HostRow;
@@ -14,7 +15,7 @@ pub extern "C" fn nehpudra_server_row(
     ceiling: u64,
     threshold: u64,
 ) -> u64
-    ensures answer { result ≡ row_made (made_server rate ceiling threshold) }
+    ensures answer { result ≡ status (made_server rate ceiling threshold) }
     ensures row { row.new ≡ row_left (made_server rate ceiling threshold) row.old }
 {
     write_row(row, HostRow::server(rate, ceiling, threshold))
@@ -23,14 +24,14 @@ pub extern "C" fn nehpudra_server_row(
 // The same of a spaced row.
 #[unsafe(no_mangle)]
 pub extern "C" fn nehpudra_spaced_row(row: &mut HostRow, rate: u64) -> u64
-    ensures answer { result ≡ row_made (made_spaced rate) }
+    ensures answer { result ≡ status (made_spaced rate) }
     ensures row { row.new ≡ row_left (made_spaced rate) row.old }
 {
     write_row(row, HostRow::spaced(rate))
 }
 
 fn write_row(row: &mut HostRow, made: Result<HostRow, Refusal>) -> u64
-    ensures answer { result ≡ row_made made }
+    ensures answer { result ≡ status made }
     ensures row { row.new ≡ row_left made row.old }
 {
     match made {
