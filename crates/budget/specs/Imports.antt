@@ -1,6 +1,10 @@
 -- What comes next on one row alone: imports in order, each begun as soon as the row is able and lasting as declared.
-use Rattle.std.specs.Prelude.{◌≡◌, ℕ, zero, suc, ◌+◌, ◌-◌, ◌/◌, ◌%◌, ◌<◌, ◌≤◌, true, false, List, [], ◌∷◌}
-use Rattle.measures.specs.Limits.{last}
+use Rattle.std.specs.Prelude.{◌≡◌, ℕ, zero, suc, ◌+◌, ◌-◌, ◌/◌, ◌%◌, ◌<◌, ◌≤◌, Bool, true, false, not, List, [], ◌∷◌, length, Result, nat_lt}
+use Rattle.std.specs.List.{list_all}
+use Rattle.measures.specs.Limits.{last, most_waiting, is_length}
+use Rattle.measures.specs.Refusals.{granted_unless}
+use Rattle.measures.specs.declared.refusal.Refusal.{Refusal}
+use Rattle.measures.specs.declared.refusal.Refusal.TheVariants.{LengthOutOfRange, QueueFull}
 use Rattle.budget.specs.Meaning.{Meaning}
 
 -- the ticks from start to end, for which an import is to hold the lock
@@ -45,3 +49,10 @@ module _ {R : Type 0} (row : Meaning R) where
   AllSoonest x t [] (s ∷ ss) = ⊥
   AllSoonest x t (c ∷ cs) [] = ⊥
   AllSoonest x t (c ∷ cs) (s ∷ ss) = Soonest x t c s × AllSoonest (row.ended (rest_long x (s.start - t)) c) s.end cs ss
+
+abbrev pub are_lengths : List ℕ → Bool
+are_lengths cs = list_all is_length cs
+
+-- whether a lab with no ticket waiting can file imports of these lengths one after another, or the first refusal
+abbrev pub fileable : List ℕ → Result (Unit {0}) Refusal
+fileable cs = granted_unless ((not (are_lengths cs), LengthOutOfRange) ∷ (nat_lt most_waiting (length cs), QueueFull) ∷ []) tt

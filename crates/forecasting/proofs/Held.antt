@@ -1,8 +1,8 @@
 -- What is told of a row that behaves as the row it holds is what is told of that one.
 use Rattle.std.proofs.Common.{◌≡◌, ℕ, ◌-◌, Bool, true, false, cond, List, [], ◌∷◌, ◌++◌, length, Ok, Err, Result, refl, ap, ◌∙◌}
 use Rattle.budget.specs.Meaning.{Meaning, BehavesAsHeld}
+use Rattle.budget.specs.Imports.{fileable}
 use Rattle.budget.proofs.Holding.{held_rest}
-use Rattle.outlook.specs.Outlooks.{listable}
 use Rattle.outlook.specs.declared.entry.Entry.{Entry}
 use Rattle.outlook.proofs.Held.{held_outlook}
 use Rattle.measures.specs.Results.{◌>>=◌}
@@ -46,5 +46,5 @@ module _ {A B : Type 0} {m : Meaning A} {n : Meaning B} {hold : A → B} (b : Be
 
   pub held_row : (x : A) (cs : List ℕ) → on_row n (Ok (hold x)) cs ≡ on_row m (Ok x) cs
   held_row x cs =
-      ap (λ list. or_fault (listable 0 (filed cs) (length cs) >>= λ _. Ok list) >>= λ es. Ok (told n (hold x) es)) (held_outlook b x 0 (filed cs))
+      ap (λ list. or_fault (fileable cs >>= λ _. Ok list) >>= λ es. Ok (told n (hold x) es)) (held_outlook b x 0 (filed cs))
       ∙ told_alike x (listed m x cs)

@@ -1,3 +1,3 @@
 mod Asked
-mod Held
+pub mod Held
 mod Listed

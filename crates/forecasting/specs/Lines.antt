@@ -6,9 +6,9 @@ use Rattle.measures.specs.Limits.{last, is_tick}
 use Rattle.measures.specs.Results.{◌>>=◌}
 use Rattle.measures.specs.declared.refusal.Refusal.{Refusal}
 use Rattle.budget.specs.Meaning.{Meaning}
-use Rattle.budget.specs.Imports.{rest_long}
+use Rattle.budget.specs.Imports.{rest_long, fileable}
 use Rattle.waiting.specs.declared.ticket.Ticket.{Ticket}
-use Rattle.outlook.specs.Outlooks.{outlook, listable}
+use Rattle.outlook.specs.Outlooks.{outlook}
 use Rattle.outlook.specs.declared.entry.Entry.{Entry}
 use Rattle.server.specs.Row.{server, made as server_made}
 use Rattle.spaced.specs.Row.{spaced, made as spaced_made}
@@ -67,7 +67,7 @@ or_fault (Err r) = Err (Refused r)
 
 -- the entries of imports of these lengths, filed at tick 0 and listed on the row x, or the first refusal
 abbrev pub listed : {R : Type 0} → Meaning R → R → List ℕ → Result (List Entry) Fault
-listed m x cs = or_fault (listable 0 (filed cs) (length cs) >>= λ _. Ok (outlook m x 0 (filed cs)))
+listed m x cs = or_fault (fileable cs >>= λ _. Ok (outlook m x 0 (filed cs)))
 
 -- imports of these lengths are filed at tick 0 on a row, if it is made: what then happens, or the first refusal
 abbrev pub on_row : {R : Type 0} → Meaning R → Result R Refusal → List ℕ → Result (List Line) Fault

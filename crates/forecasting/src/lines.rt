@@ -1,8 +1,9 @@
-ghost use Rattle.std.specs.Prelude.{◌≡◌, ◌++◌, true, nat_lt, length, IfOk, Ok, Err, OnOk};
-ghost use Rattle.forecast_lines.specs.declared.Fault.TheVariants.{TooFewNumbers};
+ghost use Rattle.std.specs.Prelude.{◌≡◌, ◌++◌, true, nat_lt, length, IfOk, IfErr, Ok, Err, OnOk};
+ghost use Rattle.budget.specs.Imports.{fileable};
+ghost use Rattle.forecast_lines.specs.declared.Fault.TheVariants.{TooFewNumbers, Refused};
 ghost use Rattle.forecasting.specs.Lines.{step_lines, after_step, steps, imports as import_lines, told, filed, listed, Answers, on_row, fewest, foretold};
 
-use budget::imports::{RowAt, rest_long};
+use budget::imports::{RowAt, check_lengths, rest_long};
 use budget::row::{BudgetRow, LevelRow};
 use forecast_lines::{Fault, Line};
 use measures::limits::LAST_TICK;
@@ -89,7 +90,9 @@ fn tell<R: LevelRow>(heap: Global, row: &R, entries: &[Entry]) -> Result<Vec<Lin
         level: row.level(),
         wait: row.wake(),
     };
-    let mut lines = vec![in heap; terms, opening]?;
+    let mut lines = Vec::with_capacity(heap, 2 + 3 * entries.len())?;
+    lines.push(terms)?;
+    lines.push(opening)?;
     push_steps(&mut lines, row, entries)?;
     push_imports(&mut lines, entries)?;
     Ok(lines)
@@ -113,11 +116,14 @@ fn file(heap: Global, lengths: &[u64]) -> Result<Vec<Ticket>, AllocError>
         .collect(heap)
 }
 
-// The entries of imports of these lengths, filed at tick 0 and listed on a row.
+// The entries of imports of these lengths, filed at tick 0 and listed on a row. Lengths that cannot be filed are refused before memory is
+// asked for.
 #[tactic(auto, using(crate::proofs::Listed::listed_first))]
 fn list_filed<R: BudgetRow>(heap: Global, row: &R, lengths: &[u64]) -> Result<Vec<Entry>, Fault>
-    ensures { Answers result (listed R.meaning row.now lengths.now) }
+    ensures said { Answers result (listed R.meaning row.now lengths.now) }
+    ensures denied { IfErr (fileable lengths.now) (λ r. result ≡ Err (Refused r)) }
 {
+    check_lengths(lengths)?;
     let tickets = file(heap, lengths)?;
     let mut list = vec![in heap; Entry::default(); lengths.len()]?;
     list_tickets(row, 0, tickets.as_slice(), list.as_mut_slice())?;
@@ -126,7 +132,9 @@ fn list_filed<R: BudgetRow>(heap: Global, row: &R, lengths: &[u64]) -> Result<Ve
 
 // All that happens to imports of these lengths, filed on a row at tick 0.
 pub fn forecast_row<R: LevelRow>(heap: Global, row: &R, lengths: &[u64]) -> Result<Vec<Line>, Fault>
-    ensures { Answers result (on_row R.meaning (Ok row.now) lengths.now) }
+    ensures said { Answers result (on_row R.meaning (Ok row.now) lengths.now) }
+    // Lengths that cannot be filed are denied whatever memory there is.
+    ensures denied { IfErr (fileable lengths.now) (λ r. result ≡ Err (Refused r)) }
 {
     let list = list_filed(heap, row, lengths)?;
     Ok(tell(heap, row, list.as_slice())?)

@@ -1,2 +1,3 @@
+pub mod Checks
 pub mod Quotients
 pub mod Rates

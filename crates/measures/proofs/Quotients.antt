@@ -1,8 +1,8 @@
 -- What division rounded up gives. Everything follows from two facts: it reaches, and it is below whatever reaches.
-use Rattle.std.proofs.Common.{◌≡◌, ℕ, suc, ◌+◌, ◌-◌, ◌*◌, ◌<◌, ◌≤◌, ⊎_elim, mul-le-mul_right, suc-mul, div-lt_iff_lt-mul, add-mul, zero-mul, le-mul_of_pos_right, arith}
+use Rattle.std.proofs.Common.{◌≡◌, ℕ, suc, ◌+◌, ◌-◌, ◌*◌, ◌/◌, ◌%◌, ◌<◌, ◌≤◌, min, ⊎_elim, mul-le-mul_right, mod-lt, suc-mul, div-lt_iff_lt-mul, add-mul, le_antisymm, lt_of_mul-lt-mul_right, div-add-mod', zero-mul, le-mul_of_pos_right, le_of_mul-le-mul_right, arith}
 use native.Mathlib.Nat.{lt-div-mul-add, mul-sub}
 use Rattle.std.proofs.lemmas.Bool.{cases_lt}
-use Rattle.measures.specs.Division.{up_div}
+use Rattle.measures.specs.Division.{up_div, Least}
 
 pub up_div_reaches : (a b : ℕ) → 0 < b → a ≤ up_div a b * b
 up_div_reaches a b h = omega (arith, lt-div-mul-add {a = a + (b - 1)} {b = b} h)
@@ -12,6 +12,40 @@ up_div_below a b k h r =
     let under : a + (b - 1) < suc k * b = rw (suc-mul) (omega arith) in
     let q : up_div a b < suc k = (div-lt_iff_lt-mul {k = b} {x = a + (b - 1)} {y = suc k} h).1 under in
     omega arith
+
+pub up_div_least : (a b : ℕ) → 0 < b → Least a b (up_div a b)
+up_div_least a b h = record { reaches = up_div_reaches a b h; least = λ k r. up_div_below a b k h r }
+
+pub least_is_up_div : (a b q : ℕ) → 0 < b → Least a b q → q ≡ up_div a b
+least_is_up_div a b q h l = le_antisymm (l.least (up_div a b) (up_div_reaches a b h)) (up_div_below a b q h l.reaches)
+
+-- the quotient, and one more where something is left over
+module _ (a b : ℕ) (h : 0 < b) where
+  exact : a % b ≡ 0 → Least a b (a / b + min 1 (a % b))
+  exact e =
+      let whole : a / b * b ≡ a = omega (arith, div-add-mod' a b) in
+      let same : a / b + min 1 (a % b) ≡ a / b = omega arith in
+      record {
+        reaches = rw same (omega arith);
+        least = λ k r.
+            let q : a / b ≤ k = le_of_mul-le-mul_right {m = a / b} {n = k} {k = b} (omega arith) h in
+            omega arith;
+      }
+
+  over : 0 < a % b → Least a b (a / b + min 1 (a % b))
+  over p =
+      let split : a / b * b + a % b ≡ a = div-add-mod' a b in
+      let low : a % b < b = mod-lt a h in
+      let more : a / b + min 1 (a % b) ≡ suc (a / b) = omega arith in
+      record {
+        reaches = rw (more, suc-mul) (omega arith);
+        least = λ k r.
+            let q : a / b < k = lt_of_mul-lt-mul_right b {m = a / b} {n = k} (omega arith) in
+            omega arith;
+      }
+
+  pub quotient_least : Least a b (a / b + min 1 (a % b))
+  quotient_least = ⊎_elim over (λ e. exact (omega arith)) (cases_lt 0 (a % b))
 
 -- it reaches by less than one time more
 pub up_div_near : (a b : ℕ) → 0 < b → up_div a b * b < a + b

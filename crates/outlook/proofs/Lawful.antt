@@ -13,6 +13,7 @@ use Rattle.waiting.specs.Queues.{queue_of, none_waiting, with_ticket, without_fi
 use Rattle.waiting.specs.declared.ticket.Ticket.{Ticket}
 use Rattle.waiting.proofs.Labs.{each_set, All-inserted, All-without_numbered, queue_of-none_waiting}
 use Rattle.outlook.specs.Outlooks.{AllLawful, place_checks, listable}
+use Rattle.outlook.proofs.Listed.{deciding_all}
 
 -- the ticket's declared length is lawful
 abbrev Lawful : Ticket → Type 0
@@ -63,4 +64,4 @@ only_short qs k t count places tickets before r all tick is held room denied =
     let few : length q ≤ most_waiting = omega (arith, ap length held, length-append q (drop (length q) before), room) in
     let same : take count tickets ≡ q = rw (is, held) (take_at q (drop (length q) before) (length q) refl) in
     short_alone (nat_lt places (length q)) (length q) r
-    (denied ∙ rw (same, le-leb t last tick, list_all-from_AllPass (λ t. is_length t.length) q (all.each k), le-ltb most_waiting (length q) few) refl)
+    (denied ∙ rw (same, le-leb t last tick, deciding_all q few, list_all-from_AllPass (λ t. is_length t.length) q (all.each k), le-ltb most_waiting (length q) few) refl)

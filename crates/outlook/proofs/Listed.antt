@@ -1,6 +1,6 @@
 -- Entries written one after another into the first places of a list.
 use Rattle.std.proofs.Common.{◌≡◌, ℕ, suc, ◌+◌, ◌*◌, ◌^◌, ◌<◌, ◌≤◌, true, List, [], ◌∷◌, ◌++◌, length, get_or, take, drop, set, sym, refl, ap, ◌∙◌, append_assoc, arith, drop-set-lt, take_at, append-nil, subst}
-use Rattle.std.proofs.lemmas.List.{take_more_set, drop_more, at_drop_more, at_drop_all, take-append-drop}
+use Rattle.std.proofs.lemmas.List.{take_more_set, drop_more, at_drop_more, at_drop_all, take-append-drop, take_all}
 use Rattle.std.proofs.lemmas.Bool.{and_parts, leb-true}
 use Rattle.std.proofs.lemmas.List.Sums.{AllPass-from_list_all}
 use Rattle.measures.specs.Limits.{last, most_waiting, greatest_length, is_length}
@@ -10,11 +10,19 @@ use Rattle.waiting.specs.Queues.{headed_by}
 use Rattle.budget.proofs.Resting.{wake_limit, all_soonest}
 use Rattle.waiting.specs.declared.ticket.Ticket.{Ticket}
 use Rattle.outlook.specs.declared.entry.Entry.{Entry}
-use Rattle.outlook.specs.Outlooks.{lengths, slots, outlook, are_lawful, AreSoonest, Ran}
+use Rattle.outlook.specs.Outlooks.{lengths, slots, outlook, are_lawful, deciding, AreSoonest, Ran}
 
 -- each of lawful tickets is lawful
 pub lawful_at : (ts : List Ticket) (i : ℕ) (d : Ticket) → are_lawful ts ≡ true → i < length ts → (get_or ts i d).length ≤ greatest_length
 lawful_at ts i d all h = leb-true _ _ (and_parts _ _ (AllPass-from_list_all (λ t. is_length t.length) ts all i d h)).1
+
+-- where no more are there than can be listed, those that decide are all
+pub deciding_all : (ts : List Ticket) → length ts ≤ most_waiting → deciding ts ≡ ts
+unfolding deciding
+deciding_all ts few = take_all (most_waiting + 1) ts (omega arith)
+
+pub lawful_all : (ts : List Ticket) → length ts ≤ most_waiting → are_lawful (deciding ts) ≡ true → are_lawful ts ≡ true
+lawful_all ts few lawful = subst (λ us. are_lawful us ≡ true) (deciding_all ts few) lawful
 
 module _ {R : Type 0} (m : Meaning R) where
   -- the slots that are told are those that come next

@@ -1,5 +1,5 @@
 -- What is foretold of tickets on one row, and what a gate answers that is asked for the outlook of a lab.
-use Rattle.std.specs.Prelude.{◌≡◌, ℕ, Bool, not, nat_le, nat_lt, List, [], ◌∷◌, ◌++◌, map, length, take, slice_get, is_some, IfSome, Ok, Err, Result}
+use Rattle.std.specs.Prelude.{◌≡◌, ℕ, ◌+◌, Bool, not, nat_le, nat_lt, List, [], ◌∷◌, ◌++◌, map, length, take, slice_get, is_some, IfSome, Ok, Err, Result}
 use Rattle.std.specs.List.{list_all, AllPass}
 use Rattle.std.specs.Option.{option_map_or}
 use Rattle.measures.specs.Limits.{most_waiting, is_tick, is_length}
@@ -51,6 +51,11 @@ Ran row x t ticket e y u =
 abbrev pub are_lawful : List Ticket → Bool
 are_lawful tickets = list_all (λ ticket. is_length ticket.length) tickets
 
+-- the tickets that decide whether a list of them is denied for a length: as many as can be listed, and one more, which is denied whatever comes
+-- after it
+unfoldable pub deciding : List Ticket → List Ticket
+deciding tickets = take (most_waiting + 1) tickets
+
 -- so many places are too few for an entry for each ticket
 abbrev pub place_checks : List Ticket → ℕ → List (Bool × Refusal)
 place_checks tickets places = (nat_lt places (length tickets), ListTooShort) ∷ []
@@ -59,7 +64,7 @@ place_checks tickets places = (nat_lt places (length tickets), ListTooShort) ∷
 abbrev pub list_checks : ℕ → List Ticket → ℕ → List (Bool × Refusal)
 list_checks t tickets places =
     (not (is_tick t), TickOutOfRange)
-    ∷ (not (are_lawful tickets), LengthOutOfRange)
+    ∷ (not (are_lawful (deciding tickets)), LengthOutOfRange)
     ∷ (nat_lt most_waiting (length tickets), QueueFull)
     ∷ place_checks tickets places
 

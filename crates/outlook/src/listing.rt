@@ -12,8 +12,8 @@ use waiting::ticket::Ticket;
 
 // Lists when tickets will run on a row alone, from `tick` on: each begins as soon as the row is able, once the one before it has ended, and
 // lasts as declared. The first places of the list are written, so that no memory is asked for. Refused, and nothing is written, for a tick
-// above the last tick, a declared length out of range, more than 16 tickets, or a list with fewer places than tickets.
-#[tactic(auto, using(crate::proofs::Listed::listed_soonest))]
+// above the last tick, a declared length out of range among the first 17, more than 16 tickets, or a list with fewer places than tickets.
+#[tactic(auto, using(crate::proofs::Listed::listed_soonest, crate::proofs::Listed::lawful_all))]
 pub fn list_tickets<R: BudgetRow>(
     row: &R,
     tick: u64,
@@ -30,13 +30,16 @@ pub fn list_tickets<R: BudgetRow>(
     Ok(())
 }
 
+// However long the list is, no more than 17 tickets are looked at.
+#[tactic(auto, unfolding(crate::specs::Outlooks::deciding))]
 fn check_list(tick: u64, tickets: &[Ticket], places: usize) -> Result<(), Refusal>
     ensures { result ≡ listable tick tickets.now places }
 {
+    let deciding = &tickets[..tickets.len().min(MOST_WAITING as usize + 1)];
     if !is_tick(tick) {
         return Err(Refusal::TickOutOfRange);
     }
-    if !are_lawful(tickets) {
+    if !are_lawful(deciding) {
         return Err(Refusal::LengthOutOfRange);
     }
     if tickets.len() as u64 > MOST_WAITING {

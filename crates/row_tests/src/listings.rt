@@ -157,7 +157,12 @@ fn the_first_refusal_is_answered(rt: HostRuntime) -> Result<(), Fail> {
     let unlawful = [ticket(1, 0); 17];
     check_refused(&rt, LAST_TICK + 1, &unlawful, &mut list, TickOutOfRange)?;
     check_refused(&rt, 0, &unlawful, &mut list, LengthOutOfRange)?;
-    check_refused(&rt, 0, &[ticket(1, 1); 17], &mut list, QueueFull)
+    check_refused(&rt, 0, &[ticket(1, 1); 17], &mut list, QueueFull)?;
+    let mut long = [ticket(1, 1); 18];
+    long[17].length = 0;
+    check_refused(&rt, 0, &long, &mut list, QueueFull)?;
+    long[16].length = 0;
+    check_refused(&rt, 0, &long, &mut list, LengthOutOfRange)
 }
 
 // At rate 500 and threshold 0 each run of a million ticks is followed by a wait as long.
