@@ -1,5 +1,5 @@
 -- What is told of a row that behaves as the row it holds is what is told of that one.
-use Rattle.std.proofs.Common.{◌≡◌, ℕ, ◌-◌, Bool, true, false, cond, List, [], ◌∷◌, ◌++◌, length, Ok, Err, Result, refl, ap, ◌∙◌}
+use Rattle.std.proofs.Common.{◌≡◌, ℕ, ◌-◌, Bool, true, false, cond, List, [], ◌∷◌, ◌++◌, Ok, Err, Result, refl, ap, ◌∙◌}
 use Rattle.budget.specs.Meaning.{Meaning, BehavesAsHeld}
 use Rattle.budget.specs.Imports.{fileable}
 use Rattle.budget.proofs.Holding.{held_rest}
